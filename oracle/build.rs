@@ -60,12 +60,18 @@ fn main() {
     }
     let text = std::fs::read_to_string(source).expect("src/parser/document.rs cannot be read");
     let digest = sha256::hex_digest(text.as_bytes());
-    assert_eq!(digest, EXPECTED, "src/parser/document.rs is not the original text");
+    assert_eq!(
+        digest, EXPECTED,
+        "src/parser/document.rs is not the original text"
+    );
 
     let mut counted = text;
     for (pattern, replacement) in SUBSTITUTIONS {
         let found = counted.matches(pattern).count();
-        assert_eq!(found, 1, "pattern must occur once in document.rs: {pattern:?}");
+        assert_eq!(
+            found, 1,
+            "pattern must occur once in document.rs: {pattern:?}"
+        );
         counted = counted.replacen(pattern, replacement, 1);
     }
     let out = std::env::var_os("OUT_DIR").expect("cargo sets OUT_DIR");

@@ -34,12 +34,20 @@ pub fn parse(line: &str) -> Result<Case, String> {
     for word in words {
         item(word, &mut bytes)?;
     }
-    Ok(Case { entry, base, event_words, error_words, bytes })
+    Ok(Case {
+        entry,
+        base,
+        event_words,
+        error_words,
+        bytes,
+    })
 }
 
 /// Appends the bytes of `kind:length` or `x:HEX`.
 fn item(word: &str, bytes: &mut Vec<u8>) -> Result<(), String> {
-    let (kind, rest) = word.split_once(':').ok_or(format!("{word:?} has no colon"))?;
+    let (kind, rest) = word
+        .split_once(':')
+        .ok_or(format!("{word:?} has no colon"))?;
     if kind != "x" {
         records::push(bytes, number(kind)?, number(rest)?);
         return Ok(());
@@ -56,7 +64,8 @@ fn item(word: &str, bytes: &mut Vec<u8>) -> Result<(), String> {
 
 /// A number that fits its place.
 pub fn number<N: std::str::FromStr>(word: &str) -> Result<N, String> {
-    word.parse().map_err(|_| format!("{word:?} is no number that fits"))
+    word.parse()
+        .map_err(|_| format!("{word:?} is no number that fits"))
 }
 
 /// The line out for a line in, or a text on what is wrong: with the line, or
@@ -101,7 +110,14 @@ mod tests {
 
     #[test]
     fn wrong_lines_are_errors() {
-        for line in ["", "document", "table 0 0 0", "key 0 0 0 15", "key 0 0 0 x:0", "key -1 0 0"] {
+        for line in [
+            "",
+            "document",
+            "table 0 0 0",
+            "key 0 0 0 15",
+            "key 0 0 0 x:0",
+            "key -1 0 0",
+        ] {
             assert!(answer_line(line).is_err(), "{line:?}");
         }
     }

@@ -33,7 +33,12 @@ pub struct ParseError {
 impl ParseError {
     /// An error with this text and nothing else.
     pub fn new(description: &'static str) -> Self {
-        Self { description, context: None, expected: None, unexpected: None }
+        Self {
+            description,
+            context: None,
+            expected: None,
+            unexpected: None,
+        }
     }
 
     /// The same with a context.

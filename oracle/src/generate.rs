@@ -44,7 +44,11 @@ pub fn case(prng: &mut Prng, style: Style, entry: Option<Entry>, most: usize) ->
     let tight = style != Style::Valid;
     let events = room(prng, 16 * (pairs.len() + 2), tight);
     let errors = room(prng, 18 * (pairs.len() + 2), tight);
-    let base = if style == Style::Valid { 0 } else { base(prng, &pairs) };
+    let base = if style == Style::Valid {
+        0
+    } else {
+        base(prng, &pairs)
+    };
     let mut line = format!("{} {base} {events} {errors}", entry.name());
     if style == Style::Malformed {
         malformed(prng, &mut line, &pairs);
@@ -72,7 +76,10 @@ fn random(prng: &mut Prng, most: usize) -> Vec<Pair> {
         kinds.truncate(most.saturating_sub(1));
         kinds.push(16);
     }
-    kinds.into_iter().map(|kind| (kind, length(prng, kind))).collect()
+    kinds
+        .into_iter()
+        .map(|kind| (kind, length(prng, kind)))
+        .collect()
 }
 
 /// `a=` and 60 to 66 openings, arrays and inline tables mixed or arrays alone.
@@ -115,7 +122,9 @@ fn malformed(prng: &mut Prng, line: &mut String, pairs: &[Pair]) {
     let mut pairs = pairs.to_vec();
     for _ in 0..1 + prng.below(2) {
         let place = prng.below(pairs.len() + 1);
-        let Some(pair) = pairs.get_mut(place) else { break };
+        let Some(pair) = pairs.get_mut(place) else {
+            break;
+        };
         match prng.below(4) {
             0 => pair.0 = prng.pick(&[0, 17, 256, 271, 65_535]),
             1 => pair.1 = u32::from(pair.1 == 0),

@@ -84,7 +84,9 @@ fn compare(
         return if counted == unchanged {
             Ok(())
         } else {
-            Err(format!("counted copy: {counted:?}\nunchanged: {unchanged:?}"))
+            Err(format!(
+                "counted copy: {counted:?}\nunchanged: {unchanged:?}"
+            ))
         };
     };
     if !unchanged.events.starts_with(&counted.events) {
@@ -101,14 +103,20 @@ fn compare(
     };
     let open = [kind, 0, span.start() as u32, span.end() as u32];
     if unchanged.events.get(counted.events.len()) != Some(&open) {
-        return Err(format!("the stop at record {record} is not before its open event"));
+        return Err(format!(
+            "the stop at record {record} is not before its open event"
+        ));
     }
     Ok(())
 }
 
 /// The answer to a refusal among 1 to 5.
 fn early(refusal: records::Refusal) -> Answer {
-    Answer { refusal: refusal.number, place: refusal.place, ..Answer::default() }
+    Answer {
+        refusal: refusal.number,
+        place: refusal.place,
+        ..Answer::default()
+    }
 }
 
 /// Writes what fits and gives the answer, refusals 6 to 8 among it.
@@ -125,5 +133,10 @@ fn write(lists: &Lists, stop: Option<usize>, events: &mut [u32], errors: &mut [u
         None if lists.errors.len() > errors.len() / 6 => (8, 0),
         None => (0, 0),
     };
-    Answer { refusal, place, events: lists.events.len(), errors: lists.errors.len() }
+    Answer {
+        refusal,
+        place,
+        events: lists.events.len(),
+        errors: lists.errors.len(),
+    }
 }

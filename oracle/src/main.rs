@@ -14,6 +14,7 @@ use oracle::listing::listing;
 use oracle::notation;
 use oracle::prng::Prng;
 use oracle::records;
+use oracle::walk;
 use oracle::Entry;
 
 const USAGE: &str = "usage:
@@ -27,7 +28,7 @@ ENTRY is document, key, simple_key or value";
 fn main() -> ExitCode {
     let words: Vec<String> = std::env::args().skip(1).collect();
     let words: Vec<&str> = words.iter().map(String::as_str).collect();
-    match run(&words) {
+    match walk::on_large_stack(|| run(&words)) {
         Ok(()) => ExitCode::SUCCESS,
         Err(text) => {
             eprintln!("oracle: {text}");
@@ -44,9 +45,7 @@ fn run(words: &[&str]) -> Result<(), String> {
         ["--valid", rest @ ..] => make_cases(Style::Valid, rest),
         ["--malformed", rest @ ..] => make_cases(Style::Malformed, rest),
         ["--records", text] => put(&records::from_pairs(&notation::pairs(text, true))),
-        ["--records", text, "--no-eof"] => {
-            put(&records::from_pairs(&notation::pairs(text, false)))
-        }
+        ["--records", text, "--no-eof"] => put(&records::from_pairs(&notation::pairs(text, false))),
         ["--pairs", text] => put_pairs(&notation::pairs(text, true)),
         ["--pairs", text, "--no-eof"] => put_pairs(&notation::pairs(text, false)),
         [entry, base, rest @ ..] => {
@@ -69,7 +68,9 @@ fn list(entry: Entry, base: u32, options: &[&str]) -> Result<(), String> {
         }
     }
     let mut bytes = Vec::new();
-    std::io::stdin().read_to_end(&mut bytes).map_err(|e| e.to_string())?;
+    std::io::stdin()
+        .read_to_end(&mut bytes)
+        .map_err(|e| e.to_string())?;
     let counts = oracle::judge(entry, base, &bytes, &mut [], &mut []);
     let mut events = vec![0; rooms[0].unwrap_or(counts.events * 4)];
     let mut errors = vec![0; rooms[1].unwrap_or(counts.errors * 6)];
@@ -109,10 +110,15 @@ fn make_cases(style: Style, words: &[&str]) -> Result<(), String> {
 }
 
 fn put(bytes: &[u8]) -> Result<(), String> {
-    std::io::stdout().write_all(bytes).map_err(|e| e.to_string())
+    std::io::stdout()
+        .write_all(bytes)
+        .map_err(|e| e.to_string())
 }
 
 fn put_pairs(pairs: &[(u16, u32)]) -> Result<(), String> {
-    let words: Vec<String> = pairs.iter().map(|(kind, length)| format!("{kind}:{length}")).collect();
+    let words: Vec<String> = pairs
+        .iter()
+        .map(|(kind, length)| format!("{kind}:{length}"))
+        .collect();
     put(format!("{}\n", words.join(" ")).as_bytes())
 }

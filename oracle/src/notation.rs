@@ -34,7 +34,12 @@ fn first(text: &str) -> (TokenKind, usize) {
         b' ' => (TokenKind::Whitespace, until(text.find(|c| c != ' '))),
         b'#' => (TokenKind::Comment, until(text.find('\n'))),
         b'"' => quoted(text, "\"", TokenKind::BasicString, TokenKind::MlBasicString),
-        b'\'' => quoted(text, "'", TokenKind::LiteralString, TokenKind::MlLiteralString),
+        b'\'' => quoted(
+            text,
+            "'",
+            TokenKind::LiteralString,
+            TokenKind::MlLiteralString,
+        ),
         _ => (TokenKind::Atom, until(text.find(ends_atom))),
     }
 }
@@ -62,9 +67,16 @@ fn ends_atom(c: char) -> bool {
 /// A string in single or triple quotes.
 fn quoted(text: &str, mark: &str, short: TokenKind, long: TokenKind) -> (TokenKind, usize) {
     let triple = mark.repeat(3);
-    let (kind, mark) = if text.starts_with(&triple) { (long, triple.as_str()) } else { (short, mark) };
+    let (kind, mark) = if text.starts_with(&triple) {
+        (long, triple.as_str())
+    } else {
+        (short, mark)
+    };
     let close = text[mark.len()..].find(mark);
-    (kind, close.map_or(text.len(), |place| place + 2 * mark.len()))
+    (
+        kind,
+        close.map_or(text.len(), |place| place + 2 * mark.len()),
+    )
 }
 
 #[cfg(test)]

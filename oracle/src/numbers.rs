@@ -105,8 +105,19 @@ pub fn error_words(error: &ParseError) -> [u32; 6] {
     let expected = EXPECTED.iter().position(|known| *known == list);
     let expected = expected.unwrap_or_else(|| panic!("expected list without a number: {list:?}"));
     let [context_start, context_end] = span_words(error.context().expect("an error has a context"));
-    let [start, end] = span_words(error.unexpected().expect("an error has an unexpected place"));
-    [message as u32 + 1, expected as u32 + 1, context_start, context_end, start, end]
+    let [start, end] = span_words(
+        error
+            .unexpected()
+            .expect("an error has an unexpected place"),
+    );
+    [
+        message as u32 + 1,
+        expected as u32 + 1,
+        context_start,
+        context_end,
+        start,
+        end,
+    ]
 }
 
 /// The two words of a span.
@@ -120,13 +131,22 @@ mod tests {
 
     fn error(text: &'static str, expected: &'static [Expected]) -> ParseError {
         let span = Span::new_unchecked(1, 2);
-        ParseError::new(text).with_context(span).with_expected(expected).with_unexpected(span)
+        ParseError::new(text)
+            .with_context(span)
+            .with_expected(expected)
+            .with_unexpected(span)
     }
 
     #[test]
     fn known_errors_have_numbers() {
-        assert_eq!(error_words(&error("unclosed array table", &[])), [1, 1, 1, 2, 1, 2]);
-        assert_eq!(error_words(&error("extra `=`", EXPECTED[13]))[..2], [29, 14]);
+        assert_eq!(
+            error_words(&error("unclosed array table", &[])),
+            [1, 1, 1, 2, 1, 2]
+        );
+        assert_eq!(
+            error_words(&error("extra `=`", EXPECTED[13]))[..2],
+            [29, 14]
+        );
     }
 
     #[test]

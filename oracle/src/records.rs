@@ -43,7 +43,10 @@ pub fn tokens(base: u32, bytes: &[u8]) -> Result<Vec<Token>, Refusal> {
         if end > MAX_PLACE {
             return refuse(5, record);
         }
-        tokens.push(Token::new(kind, Span::new_unchecked(start as usize, end as usize)));
+        tokens.push(Token::new(
+            kind,
+            Span::new_unchecked(start as usize, end as usize),
+        ));
         start = end;
     }
     Ok(tokens)

@@ -55,7 +55,10 @@ mod tests {
         let span = Span::new_unchecked(3, 7);
         assert_eq!(span.before(), Span::new_unchecked(3, 3));
         assert_eq!(span.after(), Span::new_unchecked(7, 7));
-        assert_eq!(span.append(Span::new_unchecked(9, 12)), Span::new_unchecked(3, 12));
+        assert_eq!(
+            span.append(Span::new_unchecked(9, 12)),
+            Span::new_unchecked(3, 12)
+        );
         assert_eq!(Span::default(), Span::new_unchecked(0, 0));
     }
 }

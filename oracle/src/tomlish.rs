@@ -23,7 +23,7 @@ pub fn valid(prng: &mut Prng, entry: Entry, most: usize) -> Vec<Pair> {
     let mut pairs = match entry {
         Entry::Document => document(prng, most.saturating_sub(1)),
         Entry::SimpleKey => part(|out| name(prng, out)),
-        Entry::Key => fitting(prng, most, |prng, out| key(prng, out)),
+        Entry::Key => fitting(prng, most, key),
         Entry::Value => fitting(prng, most, |prng, out| value(prng, out, 5)),
     };
     if pairs.len() < most && !prng.one_in(8) {
@@ -64,11 +64,7 @@ fn part(write: impl FnOnce(&mut Vec<Pair>)) -> Vec<Pair> {
 }
 
 /// The first of a few tries that is short enough, else a lone Atom.
-fn fitting(
-    prng: &mut Prng,
-    most: usize,
-    write: impl Fn(&mut Prng, &mut Vec<Pair>),
-) -> Vec<Pair> {
+fn fitting(prng: &mut Prng, most: usize, write: impl Fn(&mut Prng, &mut Vec<Pair>)) -> Vec<Pair> {
     for _ in 0..4 {
         let out = part(|out| write(prng, out));
         if out.len() <= most {

@@ -12,6 +12,7 @@ use crate::numbers;
 use crate::parser;
 use crate::parser::CountingReceiver;
 use crate::parser::EventReceiver;
+use crate::records::MAX_RECORDS;
 use crate::ErrorSink;
 use crate::ParseError;
 use crate::Span;
@@ -36,7 +37,10 @@ pub const ENTRIES: [(&str, Entry); 4] = [
 impl Entry {
     /// The entry of this name, if there is one.
     pub fn from_name(name: &str) -> Option<Self> {
-        ENTRIES.iter().find(|known| known.0 == name).map(|known| known.1)
+        ENTRIES
+            .iter()
+            .find(|known| known.0 == name)
+            .map(|known| known.1)
     }
 
     /// Its name.
@@ -63,10 +67,20 @@ pub fn unchanged(entry: Entry, tokens: &[Token]) -> Lists {
     };
     with_stack(tokens.len(), || {
         let stop = Cell::new(None);
-        let mut events = Events { list: Vec::new(), stop: &stop, levels: 0 };
-        let mut errors = Errors { list: Vec::new(), stop: &stop };
+        let mut events = Events {
+            list: Vec::new(),
+            stop: &stop,
+            levels: 0,
+        };
+        let mut errors = Errors {
+            list: Vec::new(),
+            stop: &stop,
+        };
         parse(tokens, &mut events, &mut errors);
-        Lists { events: events.list, errors: errors.list }
+        Lists {
+            events: events.list,
+            errors: errors.list,
+        }
     })
 }
 
@@ -81,25 +95,70 @@ pub fn counted(entry: Entry, tokens: &[Token], levels: usize) -> (Lists, Option<
     };
     with_stack(tokens.len(), || {
         let stop = Cell::new(None);
-        let mut events = Events { list: Vec::new(), stop: &stop, levels };
-        let mut errors = Errors { list: Vec::new(), stop: &stop };
+        let mut events = Events {
+            list: Vec::new(),
+            stop: &stop,
+            levels,
+        };
+        let mut errors = Errors {
+            list: Vec::new(),
+            stop: &stop,
+        };
         parse(tokens, &mut events, &mut errors);
-        assert!(stop.get().is_some() || events.levels == levels, "levels not given back");
-        (Lists { events: events.list, errors: errors.list }, stop.get())
+        assert!(
+            stop.get().is_some() || events.levels == levels,
+            "levels not given back"
+        );
+        (
+            Lists {
+                events: events.list,
+                errors: errors.list,
+            },
+            stop.get(),
+        )
     })
 }
 
-/// Runs `walk` here for a short list, else on a thread with stack enough.
+/// Stack enough for one record, in builds without optimisation too.
+const BYTES_PER_RECORD: usize = 8 * 1024;
+
+thread_local! {
+    /// Whether this thread's stack is enough for the longest list.
+    static LARGE: Cell<bool> = const { Cell::new(false) };
+}
+
+/// Runs `work` on a thread whose stack is enough for the longest list, so that no
+/// walk in it needs a thread of its own. For programs that walk many lists.
+pub fn on_large_stack<R: Send>(work: impl FnOnce() -> R + Send) -> R {
+    on_stack_for(MAX_RECORDS, || {
+        LARGE.set(true);
+        work()
+    })
+}
+
+/// Runs `walk` here if the list is short or the stack large, else on a thread with
+/// stack enough.
 fn with_stack<R: Send>(records: usize, walk: impl FnOnce() -> R + Send) -> R {
     const SHORT: usize = 256;
-    const BYTES_PER_RECORD: usize = 8 * 1024;
-    if records <= SHORT {
-        return walk();
+    if records <= SHORT || LARGE.get() {
+        walk()
+    } else {
+        on_stack_for(records, walk)
     }
+}
+
+/// Runs `work` on a thread with stack enough for a list of this many records, and
+/// panics as it panics.
+fn on_stack_for<R: Send>(records: usize, work: impl FnOnce() -> R + Send) -> R {
     std::thread::scope(|scope| {
-        let builder = std::thread::Builder::new().stack_size(records * BYTES_PER_RECORD);
-        let thread = builder.spawn_scoped(scope, walk).expect("a thread with a large stack");
-        thread.join().unwrap_or_else(|panic| std::panic::resume_unwind(panic))
+        let size = records * BYTES_PER_RECORD + 1024 * 1024;
+        let builder = std::thread::Builder::new().stack_size(size);
+        let thread = builder
+            .spawn_scoped(scope, work)
+            .expect("a thread with a large stack");
+        thread
+            .join()
+            .unwrap_or_else(|panic| std::panic::resume_unwind(panic))
     })
 }
 
@@ -114,7 +173,8 @@ impl Events<'_> {
     fn keep(&mut self, kind: u32, span: Span, encoding: Option<Encoding>) {
         if self.stop.get().is_none() {
             let [start, end] = numbers::span_words(span);
-            self.list.push([kind, numbers::encoding_number(encoding), start, end]);
+            self.list
+                .push([kind, numbers::encoding_number(encoding), start, end]);
         }
     }
 }

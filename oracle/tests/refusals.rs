@@ -11,7 +11,12 @@ use oracle::Entry;
 const UNTOUCHED: u32 = 0xdead_beef;
 
 fn answer(refusal: u32, place: usize, events: usize, errors: usize) -> Answer {
-    Answer { refusal, place, events, errors }
+    Answer {
+        refusal,
+        place,
+        events,
+        errors,
+    }
 }
 
 /// The answer with ample room, compared with the unchanged original.
@@ -19,8 +24,12 @@ fn ample(entry: Entry, base: u32, bytes: &[u8]) -> Answer {
     let mut events = vec![UNTOUCHED; 4 * (bytes.len() + 8)];
     let mut errors = vec![UNTOUCHED; 6 * (bytes.len() + 8)];
     let answer = judge_compared(entry, base, bytes, &mut events, &mut errors).unwrap();
-    assert!(events[4 * answer.events..].iter().all(|word| *word == UNTOUCHED));
-    assert!(errors[6 * answer.errors..].iter().all(|word| *word == UNTOUCHED));
+    assert!(events[4 * answer.events..]
+        .iter()
+        .all(|word| *word == UNTOUCHED));
+    assert!(errors[6 * answer.errors..]
+        .iter()
+        .all(|word| *word == UNTOUCHED));
     answer
 }
 
@@ -34,15 +43,27 @@ fn refusal_1_is_a_cut_record() {
     assert_eq!(ample(Entry::Document, 0, &[0; 5]), answer(1, 0, 0, 0));
     assert_eq!(ample(Entry::Key, 0, &[0; 13]), answer(1, 2, 0, 0));
     // Before 2 and 5: too many records and a base too high do not matter.
-    assert_eq!(ample(Entry::Value, u32::MAX, &vec![0; 65_537 * 6 + 1]), answer(1, 65_537, 0, 0));
+    assert_eq!(
+        ample(Entry::Value, u32::MAX, &vec![0; 65_537 * 6 + 1]),
+        answer(1, 65_537, 0, 0)
+    );
 }
 
 #[test]
 fn refusal_2_is_too_many_records() {
-    assert_eq!(ample(Entry::Document, 0, &many(10, 65_536)), answer(0, 0, 65_536, 0));
-    assert_eq!(ample(Entry::Document, 0, &many(10, 65_537)), answer(2, 65_536, 0, 0));
+    assert_eq!(
+        ample(Entry::Document, 0, &many(10, 65_536)),
+        answer(0, 0, 65_536, 0)
+    );
+    assert_eq!(
+        ample(Entry::Document, 0, &many(10, 65_537)),
+        answer(2, 65_536, 0, 0)
+    );
     // Before 5, 3 and 4.
-    assert_eq!(ample(Entry::Document, u32::MAX, &many(0, 65_537)), answer(2, 65_536, 0, 0));
+    assert_eq!(
+        ample(Entry::Document, u32::MAX, &many(0, 65_537)),
+        answer(2, 65_536, 0, 0)
+    );
 }
 
 #[test]
@@ -52,7 +73,10 @@ fn refusal_3_is_a_kind_that_is_none() {
         assert_eq!(ample(Entry::Key, 0, &bytes), answer(3, 1, 0, 0));
     }
     // The kind comes before the length of the same record.
-    assert_eq!(ample(Entry::Key, 0, &from_pairs(&[(17, 0)])), answer(3, 0, 0, 0));
+    assert_eq!(
+        ample(Entry::Key, 0, &from_pairs(&[(17, 0)])),
+        answer(3, 0, 0, 0)
+    );
 }
 
 #[test]
@@ -80,23 +104,38 @@ fn refusal_5_is_a_place_too_high() {
     let eof = from_pairs(&[(16, 0)]);
     let atom = from_pairs(&[(15, 1)]);
     assert_eq!(ample(Entry::Document, 16_777_216, &eof), answer(0, 0, 0, 0));
-    assert_eq!(ample(Entry::Document, 16_777_216, &atom), answer(5, 0, 0, 0));
+    assert_eq!(
+        ample(Entry::Document, 16_777_216, &atom),
+        answer(5, 0, 0, 0)
+    );
     assert_eq!(ample(Entry::Document, 16_777_215, &atom).refusal, 0);
     assert_eq!(ample(Entry::Document, 16_777_217, &eof), answer(5, 0, 0, 0));
     assert_eq!(ample(Entry::Document, u32::MAX, &[]), answer(5, 0, 0, 0));
     // The base comes before any record; sums do not wrap.
-    assert_eq!(ample(Entry::Key, 16_777_217, &from_pairs(&[(0, 0)])), answer(5, 0, 0, 0));
+    assert_eq!(
+        ample(Entry::Key, 16_777_217, &from_pairs(&[(0, 0)])),
+        answer(5, 0, 0, 0)
+    );
     let bytes = from_pairs(&[(15, 1), (16, 0), (8, u32::MAX), (0, 9)]);
     assert_eq!(ample(Entry::Key, 16_777_215, &bytes), answer(5, 2, 0, 0));
 }
 
 #[test]
 fn early_refusals_leave_the_buffers_alone() {
-    let cases: [(u32, &[(u16, u32)]); 3] =
-        [(0, &[(15, 1), (0, 1)]), (0, &[(15, 1), (16, 1)]), (16_777_215, &[(15, 1), (2, 1)])];
+    let cases: [(u32, &[(u16, u32)]); 3] = [
+        (0, &[(15, 1), (0, 1)]),
+        (0, &[(15, 1), (16, 1)]),
+        (16_777_215, &[(15, 1), (2, 1)]),
+    ];
     for (base, pairs) in cases {
         let (mut events, mut errors) = ([UNTOUCHED; 40], [UNTOUCHED; 60]);
-        let found = judge(Entry::Document, base, &from_pairs(pairs), &mut events, &mut errors);
+        let found = judge(
+            Entry::Document,
+            base,
+            &from_pairs(pairs),
+            &mut events,
+            &mut errors,
+        );
         assert_eq!((found.place, found.events, found.errors), (1, 0, 0));
         assert_eq!((events, errors), ([UNTOUCHED; 40], [UNTOUCHED; 60]));
     }
@@ -106,20 +145,26 @@ fn early_refusals_leave_the_buffers_alone() {
 fn refusal_6_is_the_65th_level() {
     assert_eq!(ample(Entry::Value, 0, &many(4, 64)), answer(0, 0, 128, 64));
     assert_eq!(ample(Entry::Value, 0, &many(4, 65)), answer(6, 64, 64, 0));
-    assert_eq!(ample(Entry::Value, 9, &many(4, 65_536)), answer(6, 64, 64, 0));
-    // 64 arrays side by side in one do not nest; closing gives a level back.
+    assert_eq!(
+        ample(Entry::Value, 9, &many(4, 65_536)),
+        answer(6, 64, 64, 0)
+    );
+    // Closing gives a level back: with 64 open, `],[],[` opens no 65th, one more does.
     let mut pairs = vec![(4, 1); 64];
-    pairs.extend([(5, 1), (3, 1), (4, 1), (5, 1), (3, 1), (4, 1), (4, 1)]);
-    let found = ample(Entry::Value, 0, &from_pairs(&pairs));
-    assert_eq!(found, answer(6, 70, 64 + 6, 0));
-    // What is emitted before the stop counts: the missing comma here.
-    let mut pairs = vec![(4, 1); 64];
-    pairs.extend([(15, 1), (8, 1), (16, 0), (6, 1)]);
-    let found = ample(Entry::Value, 0, &from_pairs(&pairs[..66]));
-    assert_eq!(found.refusal, 0);
+    pairs.extend([(5, 1), (3, 1), (4, 1), (5, 1), (3, 1), (4, 1)]);
+    assert_eq!(ample(Entry::Value, 0, &from_pairs(&pairs)).refusal, 0);
+    pairs.push((4, 1));
+    assert_eq!(
+        ample(Entry::Value, 0, &from_pairs(&pairs)),
+        answer(6, 70, 70, 0)
+    );
+    // What is emitted before the stop counts: string, missing comma and its error.
     let mut pairs = vec![(4, 1); 64];
     pairs.extend([(12, 3), (6, 1)]);
-    assert_eq!(ample(Entry::Value, 0, &from_pairs(&pairs)), answer(6, 65, 66, 1));
+    assert_eq!(
+        ample(Entry::Value, 0, &from_pairs(&pairs)),
+        answer(6, 65, 66, 1)
+    );
 }
 
 #[test]
@@ -137,8 +182,7 @@ fn invented_opens_and_skipped_brackets_take_no_level() {
 #[test]
 fn levels_are_a_parameter() {
     for levels in 0..5 {
-        let found =
-            judge_with_levels(Entry::Value, 0, &many(4, 5), levels, &mut [], &mut []);
+        let found = judge_with_levels(Entry::Value, 0, &many(4, 5), levels, &mut [], &mut []);
         assert_eq!(found, answer(6, levels, levels, 0));
     }
     let found = judge_with_levels(Entry::Value, 0, &many(4, 5), 5, &mut [0; 40], &mut [0; 30]);
@@ -167,15 +211,27 @@ fn refusals_7_and_8_are_lists_that_do_not_fit() {
     };
     let whole = [10, 0, 0, 1, 12, 0, 1, 1, 13, 0, 1, 2, 11, 0, 2, 3];
     let error = [11, 9, 1, 2, 1, 1];
-    assert_eq!(run(16, 6), (answer(0, 0, 4, 1), whole.to_vec(), error.to_vec()));
+    assert_eq!(
+        run(16, 6),
+        (answer(0, 0, 4, 1), whole.to_vec(), error.to_vec())
+    );
     let (found, events, errors) = run(15, 6);
     assert_eq!((found, &errors[..]), (answer(7, 0, 4, 1), &error[..]));
-    assert_eq!((&events[..12], &events[12..]), (&whole[..12], &[UNTOUCHED; 3][..]));
+    assert_eq!(
+        (&events[..12], &events[12..]),
+        (&whole[..12], &[UNTOUCHED; 3][..])
+    );
     let (found, events, errors) = run(19, 5);
     assert_eq!((found, errors), (answer(8, 0, 4, 1), vec![UNTOUCHED; 5]));
-    assert_eq!((&events[..16], &events[16..]), (&whole[..], &[UNTOUCHED; 3][..]));
+    assert_eq!(
+        (&events[..16], &events[16..]),
+        (&whole[..], &[UNTOUCHED; 3][..])
+    );
     let (found, events, errors) = run(0, 11);
     assert_eq!((found, events), (answer(7, 0, 4, 1), vec![]));
-    assert_eq!((&errors[..6], &errors[6..]), (&error[..], &[UNTOUCHED; 5][..]));
+    assert_eq!(
+        (&errors[..6], &errors[6..]),
+        (&error[..], &[UNTOUCHED; 5][..])
+    );
     assert_eq!(run(0, 0).0, answer(7, 0, 4, 1));
 }
