@@ -1,0 +1,124 @@
+//! The oracle as a program: lists one token list, answers a batch of them, or
+//! makes records and random cases. See README.md.
+
+use std::io::BufRead as _;
+use std::io::Read as _;
+use std::io::Write as _;
+use std::process::ExitCode;
+
+use oracle::batch;
+use oracle::batch::number;
+use oracle::generate;
+use oracle::generate::Style;
+use oracle::listing::listing;
+use oracle::notation;
+use oracle::prng::Prng;
+use oracle::records;
+use oracle::walk;
+use oracle::Entry;
+
+const USAGE: &str = "usage:
+  oracle ENTRY BASE [--events WORDS] [--errors WORDS] < records
+  oracle --batch < cases
+  oracle --random|--damaged|--valid|--malformed COUNT SEED ENTRY|any MAXLEN
+  oracle --records NOTATION [--no-eof]
+  oracle --pairs NOTATION [--no-eof]
+ENTRY is document, key, simple_key or value";
+
+fn main() -> ExitCode {
+    let words: Vec<String> = std::env::args().skip(1).collect();
+    let words: Vec<&str> = words.iter().map(String::as_str).collect();
+    match walk::on_large_stack(|| run(&words)) {
+        Ok(()) => ExitCode::SUCCESS,
+        Err(text) => {
+            eprintln!("oracle: {text}");
+            ExitCode::from(2)
+        }
+    }
+}
+
+fn run(words: &[&str]) -> Result<(), String> {
+    match words {
+        ["--batch"] => answer_batch(),
+        ["--random", rest @ ..] => make_cases(Style::Random, rest),
+        ["--damaged", rest @ ..] => make_cases(Style::Damaged, rest),
+        ["--valid", rest @ ..] => make_cases(Style::Valid, rest),
+        ["--malformed", rest @ ..] => make_cases(Style::Malformed, rest),
+        ["--records", text] => put(&records::from_pairs(&notation::pairs(text, true))),
+        ["--records", text, "--no-eof"] => put(&records::from_pairs(&notation::pairs(text, false))),
+        ["--pairs", text] => put_pairs(&notation::pairs(text, true)),
+        ["--pairs", text, "--no-eof"] => put_pairs(&notation::pairs(text, false)),
+        [entry, base, rest @ ..] => {
+            let entry = Entry::from_name(entry).ok_or(USAGE)?;
+            list(entry, number(base)?, rest)
+        }
+        _ => Err(USAGE.to_string()),
+    }
+}
+
+/// Lists one token list. Without a given room the buffers get the size that a
+/// first run without any room counts.
+fn list(entry: Entry, base: u32, options: &[&str]) -> Result<(), String> {
+    let mut rooms: [Option<usize>; 2] = [None, None];
+    for option in options.chunks(2) {
+        match option {
+            ["--events", words] => rooms[0] = Some(number(words)?),
+            ["--errors", words] => rooms[1] = Some(number(words)?),
+            _ => return Err(USAGE.to_string()),
+        }
+    }
+    let mut bytes = Vec::new();
+    std::io::stdin()
+        .read_to_end(&mut bytes)
+        .map_err(|e| e.to_string())?;
+    let counts = oracle::judge(entry, base, &bytes, &mut [], &mut []);
+    let mut events = vec![0; rooms[0].unwrap_or(counts.events * 4)];
+    let mut errors = vec![0; rooms[1].unwrap_or(counts.errors * 6)];
+    let answer = oracle::judge_compared(entry, base, &bytes, &mut events, &mut errors)?;
+    put(listing(&answer, &events, &errors).as_bytes())
+}
+
+/// Answers each line of the input, and stops at the first thing that is wrong.
+fn answer_batch() -> Result<(), String> {
+    let mut out = std::io::BufWriter::new(std::io::stdout().lock());
+    for (place, line) in std::io::stdin().lock().lines().enumerate() {
+        let line = line.map_err(|e| e.to_string())?;
+        let answer = batch::answer_line(&line);
+        let answer = answer.map_err(|text| format!("line {}: {text}", place + 1))?;
+        writeln!(out, "{answer}").map_err(|e| e.to_string())?;
+    }
+    out.flush().map_err(|e| e.to_string())
+}
+
+/// Writes random cases, the same ones for the same words.
+fn make_cases(style: Style, words: &[&str]) -> Result<(), String> {
+    let [count, seed, entry, most] = words else {
+        return Err(USAGE.to_string());
+    };
+    let entry = match *entry {
+        "any" => None,
+        name => Some(Entry::from_name(name).ok_or(USAGE)?),
+    };
+    let mut prng = Prng::new(number(seed)?);
+    let most = number(most)?;
+    let mut out = std::io::BufWriter::new(std::io::stdout().lock());
+    for _ in 0..number::<u64>(count)? {
+        let line = generate::case(&mut prng, style, entry, most);
+        writeln!(out, "{line}").map_err(|e| e.to_string())?;
+    }
+    out.flush().map_err(|e| e.to_string())
+}
+
+fn put(bytes: &[u8]) -> Result<(), String> {
+    std::io::stdout()
+        .write_all(bytes)
+        .map_err(|e| e.to_string())
+}
+
+fn put_pairs(pairs: &[(u16, u32)]) -> Result<(), String> {
+    let words: Vec<String> = pairs
+        .iter()
+        .map(|(kind, length)| format!("{kind}:{length}"))
+        .collect();
+    put(format!("{}\n", words.join(" ")).as_bytes())
+}
