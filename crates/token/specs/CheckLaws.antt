@@ -1,0 +1,147 @@
+-- Laws of the check of a list: a turn at a time, and what it lets through. Proved; nothing here needs to be believed.
+use mathlib.Core.Path.{_≡_, refl, ap, sym, subst, _∙_}
+use mathlib.Core.Bool.{Bool, true, false, cond}
+use mathlib.Core.List.{List, [], _∷_}
+use Prim.Native.Nat.{ℕ, zero, suc, _+_, _-_, _%_, _<_, _≤_}
+use native.Mathlib.Omega.{arith}
+use native.Mathlib.Numerals.{add-one}
+use native.Mathlib.Nat.{add-zero, add-suc}
+use lib.ListN.{length}
+use lib.Dec.{eqb, ltb, leb}
+use borrow.Author.Tests.{ltb-false, leb-true, eqb-true, eq-eqb, le-ltb}
+use Rattle.token.specs.declared.kind.Kind.{Kind}
+use Rattle.token.specs.declared.kind.Width.{Width}
+use Rattle.token.specs.declared.check.Checked.{Checked}
+use Rattle.token.specs.declared.cursor.Cursor.{Cursor}
+use Rattle.token.specs.Limits.{maxRecords, maxEnd}
+use Rattle.token.specs.Kinds.{kindOf, widthOf, widthFits}
+use Rattle.token.specs.Records.{count, lengthAt, kindNumberAt, kindAt, startAt}
+use Rattle.token.specs.Tokens.{Tok, tok, tokensFrom, allTokens, Good, At}
+use Rattle.token.specs.Check.{recordRefusal, refusedAt, checkedFrom, checked}
+use Rattle.token.specs.Laid.{Spans, Laid, laidNone, laidToken}
+
+-- what the check says of record i
+abbrev refusalAt : List ℕ → ℕ → ℕ → ℕ
+refusalAt s i p = recordRefusal (kindNumberAt s i) (lengthAt s i) (p + lengthAt s i)
+
+-- the check from record i on: its record passes, or is refused
+from-cons : (s : List ℕ) (i p : ℕ) → i < count s → checkedFrom (count s - i) s i p ≡ refusedAt (refusalAt s i p) i (checkedFrom (count s - (i + 1)) s (i + 1) (p + lengthAt s i))
+unfolding checkedFrom
+from-cons s i p h = let e : count s - i ≡ suc (count s - (i + 1)) = omega arith in rw (e, add-one)
+
+pub from-passed : (s : List ℕ) (i p r : ℕ) → i < count s → r ≡ refusalAt s i p → r ≡ 0 → checkedFrom (count s - i) s i p ≡ checkedFrom (count s - (i + 1)) s (i + 1) (p + lengthAt s i)
+from-passed s i p r h e z = from-cons s i p h ∙ ap (λ (x : ℕ). refusedAt x i (checkedFrom (count s - (i + 1)) s (i + 1) (p + lengthAt s i))) (sym e ∙ z)
+
+some-refused : (r i : ℕ) (rest : Checked) → (r ≡ 0 → ⊥) → refusedAt r i rest ≡ Checked.Refused r i
+some-refused zero i rest h = absurd (h refl)
+some-refused (suc n) i rest h = refl
+
+pub from-refused : (s : List ℕ) (i p r : ℕ) → i < count s → r ≡ refusalAt s i p → (r ≡ 0 → ⊥) → checkedFrom (count s - i) s i p ≡ Checked.Refused r i
+from-refused s i p r h e z =
+    from-cons s i p h
+    ∙ ap (λ (x : ℕ). refusedAt x i (checkedFrom (count s - (i + 1)) s (i + 1) (p + lengthAt s i))) (sym e)
+    ∙ some-refused r i (checkedFrom (count s - (i + 1)) s (i + 1) (p + lengthAt s i)) z
+
+pub from-end : (s : List ℕ) (i p : ℕ) → count s ≤ i → checkedFrom (count s - i) s i p ≡ Checked.Passed
+unfolding checkedFrom
+from-end s i p h = let e : count s - i ≡ 0 = omega arith in rw e
+
+-- a record that is not refused is as long as its kind allows and ends within the limit
+by-end : (t : Bool) (e : ℕ) → ltb maxEnd e ≡ t → _≡_ {A = ℕ} (cond t 5 0) 0 → e ≤ maxEnd
+by-end true e q z = absurd (omega (arith, z))
+by-end false e q z = ltb-false _ _ q
+
+by-width : (t : Bool) (e : ℕ) → _≡_ {A = ℕ} (cond t (cond (ltb maxEnd e) 5 0) 4) 0 → (t ≡ true) × (e ≤ maxEnd)
+by-width true e z = (refl, by-end (ltb maxEnd e) e refl z)
+by-width false e z = absurd (omega (arith, z))
+
+by-high : (t : Bool) (w : Bool) (e : ℕ) → _≡_ {A = ℕ} (cond t 3 (cond w (cond (ltb maxEnd e) 5 0) 4)) 0 → (w ≡ true) × (e ≤ maxEnd)
+by-high true w e z = absurd (omega (arith, z))
+by-high false w e z = by-width w e z
+
+by-low : (t u : Bool) (w : Bool) (e : ℕ) → _≡_ {A = ℕ} (cond t 3 (cond u 3 (cond w (cond (ltb maxEnd e) 5 0) 4))) 0 → (w ≡ true) × (e ≤ maxEnd)
+by-low true u w e z = absurd (omega (arith, z))
+by-low false u w e z = by-high u w e z
+
+pub record-passed : (k n e : ℕ) → recordRefusal k n e ≡ 0 → (widthFits (widthOf (kindOf k)) n ≡ true) × (e ≤ maxEnd)
+record-passed k n e z = by-low (ltb k 1) (ltb 16 k) (widthFits (widthOf (kindOf k)) n) e z
+
+spans : (w : Width) (p n : ℕ) → widthFits w n ≡ true → Spans w p (p + n)
+spans Width.One p n e = omega (arith, eqb-true n 1 e)
+spans Width.Zero p n e = omega (arith, eqb-true n 0 e)
+spans Width.Some p n e = omega (arith, leb-true 1 n e)
+
+-- Checked.Passed is no refusal
+abbrev IsPassed : Checked → Type 0
+IsPassed Checked.Passed = Unit {0}
+IsPassed (Checked.Refused r i) = ⊥
+
+passed-zero : (r i : ℕ) (rest : Checked) → refusedAt r i rest ≡ Checked.Passed → (r ≡ 0) × (rest ≡ Checked.Passed)
+passed-zero zero i rest e = (refl, e)
+passed-zero (suc n) i rest e = absurd (subst IsPassed (sym e) tt)
+
+from-laid : (n : ℕ) (s : List ℕ) (i p : ℕ) → checkedFrom n s i p ≡ Checked.Passed → Laid p (tokensFrom n s i p)
+unfolding checkedFrom tokensFrom
+from-laid zero s i p e = laidNone
+from-laid (suc n) s i p e =
+    let q = passed-zero (refusalAt s i p) i (checkedFrom n s (suc i) (p + lengthAt s i)) e in
+    let r = record-passed (kindNumberAt s i) (lengthAt s i) (p + lengthAt s i) (q .0) in
+    laidToken (spans (widthOf (kindAt s i)) p (lengthAt s i) (r .0)) (from-laid n s (suc i) (p + lengthAt s i) (q .1))
+
+from-most : (n : ℕ) (s : List ℕ) (b i : ℕ) → startAt s b i ≤ maxEnd → checkedFrom n s i (startAt s b i) ≡ Checked.Passed → startAt s b (i + n) ≤ maxEnd
+unfolding checkedFrom startAt
+from-most zero s b i h e = rw (add-zero i) h
+from-most (suc n) s b i h e =
+    let q = passed-zero (refusalAt s i (startAt s b i)) i (checkedFrom n s (suc i) (startAt s b i + lengthAt s i)) e in
+    let r = record-passed (kindNumberAt s i) (lengthAt s i) (startAt s b i + lengthAt s i) (q .0) in
+    let z : suc i + n ≡ i + suc n = omega arith in
+    rw z at (from-most n s b (suc i) (r .1) (q .1))
+
+-- what passes: whole records, not too many, a base within the limit, and then every record
+pub record Passes (s : List ℕ) (base : ℕ) : Type 0 where
+  pub whole : length s % 6 ≡ 0
+  pub few : count s ≤ maxRecords
+  pub low : base ≤ maxEnd
+  pub each : checkedFrom (count s) s 0 base ≡ Checked.Passed
+
+base-passed : (t : Bool) (s : List ℕ) (base : ℕ) → ltb maxEnd base ≡ t → cond t (Checked.Refused 5 0) (checkedFrom (count s) s 0 base) ≡ Checked.Passed → (base ≤ maxEnd) × (checkedFrom (count s) s 0 base ≡ Checked.Passed)
+base-passed true s base q e = absurd (subst IsPassed (sym e) tt)
+base-passed false s base q e = (ltb-false _ _ q, e)
+
+count-passed : (t : Bool) (s : List ℕ) (rest : Checked) → ltb maxRecords (count s) ≡ t → cond t (Checked.Refused 2 maxRecords) rest ≡ Checked.Passed → (count s ≤ maxRecords) × (rest ≡ Checked.Passed)
+count-passed true s rest q e = absurd (subst IsPassed (sym e) tt)
+count-passed false s rest q e = (ltb-false _ _ q, e)
+
+whole-passed : (t : Bool) (n c : ℕ) (rest : Checked) → eqb n 0 ≡ t → cond t rest (Checked.Refused 1 c) ≡ Checked.Passed → (n ≡ 0) × (rest ≡ Checked.Passed)
+whole-passed true n c rest q e = (eqb-true n 0 q, e)
+whole-passed false n c rest q e = absurd (subst IsPassed (sym e) tt)
+
+pub checked-passes : (s : List ℕ) (base : ℕ) → checked s base ≡ Checked.Passed → Passes s base
+unfolding checked
+checked-passes s base e =
+    let a = whole-passed (eqb (length s % 6) 0) (length s % 6) (count s) _ refl e in
+    let b = count-passed (ltb maxRecords (count s)) s _ refl (a .1) in
+    let d = base-passed (ltb maxEnd base) s base refl (b .1) in
+    record { whole = a .0; few = b .0; low = d .0; each = d .1 }
+
+-- then the tokens lie end to end, and a cursor at the start is good
+pub passed-laid : (s : List ℕ) (base : ℕ) → Passes s base → Laid base (allTokens s base)
+unfolding allTokens
+passed-laid s base p = from-laid (count s) s 0 base (p .each)
+
+pub passed-good : (s : List ℕ) (base : ℕ) (c : Cursor) → Passes s base → At c base 0 base → Good s c
+unfolding startAt
+passed-good s base c p a =
+    record {
+      low = omega (arith, a .at);
+      here = a .place ∙ sym (a .base) ∙ ap (startAt s (c .base)) (sym (a .at));
+      most = rw (a .base) (let z : 0 + count s ≡ count s = omega arith in rw z at (from-most (count s) s base 0 (p .low) (p .each)));
+    }
+
+-- where 1, 2 and the base do not refuse, the records decide
+pub checked-records : (s : List ℕ) (base p : ℕ) → length s % 6 ≡ 0 → count s ≤ maxRecords → p ≤ maxEnd → p ≡ base → checkedFrom (count s - 0) s 0 p ≡ checked s base
+unfolding checked
+checked-records s base p h k l e =
+    let z : count s - 0 ≡ count s = omega arith in
+    let l' : base ≤ maxEnd = omega (arith, l, e) in
+    sym (simp (eq-eqb _ _ h, le-ltb _ _ k, le-ltb _ _ l') (rw (z, e)))

@@ -1,0 +1,12 @@
+pub mod Limits
+pub mod Kinds
+pub mod Spans
+pub mod Records
+pub mod Tokens
+pub mod Search
+pub mod Check
+pub mod Laid
+pub mod KindLaws
+pub mod CursorLaws
+pub mod SearchLaws
+pub mod CheckLaws
