@@ -16,3 +16,4 @@ pub mod Document
 pub mod Entries
 pub mod Words
 pub mod Answer
+pub mod Quiet
