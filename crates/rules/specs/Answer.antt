@@ -59,10 +59,10 @@ walked all is events errors =
         refusal = refusalBy (haltOf is) (ltb (length events / eventSize) (length (eventsOf all is))) (ltb (length errors / errorSize) (length (errorsOf all is)));
         place = placeBy (haltOf is) (length all);
         events = length (eventsOf all is);
-        errors = length (errorsOf all is)
+        errors = length (errorsOf all is);
       };
       events = filled eventSize (eventsOf all is) events;
-      errors = filled errorSize (errorsOf all is) errors
+      errors = filled errorSize (errorsOf all is) errors;
     }
 
 -- refusals 1 to 5 leave the counts 0 and both buffers untouched

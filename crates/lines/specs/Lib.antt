@@ -1,0 +1,5 @@
+pub mod Pour
+pub mod Walks
+pub mod WalkLaws
+pub mod TurnLaws
+pub mod LineEnd
