@@ -1,1 +1,2 @@
 pub mod SkippingLaws
+pub mod KeyLaws

@@ -3,3 +3,5 @@ pub mod Walks
 pub mod WalkLaws
 pub mod TurnLaws
 pub mod LineEnd
+pub mod KeyWalks
+pub mod LookLaws

@@ -1,0 +1,32 @@
+-- What the walks over keys promise, which also say whether the key was valid. Assumes nothing.
+use mathlib.Core.Path.{_≡_}
+use mathlib.Core.Bool.{Bool}
+use mathlib.Core.List.{List}
+use Prim.Native.Nat.{ℕ}
+use Rattle.token.specs.Tokens.{Tok}
+use Rattle.token.specs.declared.cursor.Cursor.{Cursor}
+use Rattle.rules.specs.declared.event.Encoding.{Encoding}
+use Rattle.rules.specs.Out.{Out, Item, report, found, afterFound, done, _▹_}
+use Rattle.rules.specs.Expected as expected
+use Rattle.rules.specs.Receiver as receiver
+use Rattle.rules.specs.Keys.{lastSignificant}
+use Rattle.lines.specs.declared.emitting.Walk.{Walk}
+use Rattle.lines.specs.declared.keys.KeyWalk.{KeyWalk}
+use Rattle.lines.specs.Pour.{Bufs}
+use Rattle.lines.specs.Walks.{Goes}
+
+abbrev pub walkOf : KeyWalk → Walk
+walkOf w = record { cur = w .cur; n = w .n }
+
+-- a walk by the rule's answer r, and the rule's word on whether the key is valid
+pub record Keyed (s : List ℕ) (r : Out) (ok : Bool) (c : Cursor) (o : Bufs) (a b : List ℕ) (w : KeyWalk) : Type 0 where
+  pub goes : Goes s r c o a b (walkOf w)
+  pub valid : w .valid ≡ ok
+
+-- the report where the list ends before a part
+abbrev pub missingKey : ℕ → Item
+missingKey m = report m expected.aKey (found lastSignificant) (afterFound lastSignificant)
+
+-- a simple key at a..b, and no more
+abbrev pub simpleKeyAt : Encoding → ℕ → ℕ → List Tok → Out
+simpleKeyAt e a b ts = receiver.simpleKey e a b ▹ done ts
