@@ -1,2 +1,3 @@
 pub mod SkippingLaws
 pub mod KeyLaws
+pub mod ScalarLaws

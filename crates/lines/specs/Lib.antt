@@ -5,3 +5,4 @@ pub mod TurnLaws
 pub mod LineEnd
 pub mod KeyWalks
 pub mod LookLaws
+pub mod ScalarWalks
