@@ -99,9 +99,9 @@ pub data Header : List Tok → List Tok → Type 0 where
 
 -- "nothing, pair or header"
 pub data Expression (N : Inside) : List Tok → List Tok → Type 0 where
-  nothing : {ts : List Tok} → Expression N ts ts
-  pair : {ts rest : List Tok} → Pair N ts rest → Expression N ts rest
-  header : {ts rest : List Tok} → Header ts rest → Expression N ts rest
+  noExpression : {ts : List Tok} → Expression N ts ts
+  pairExpression : {ts rest : List Tok} → Pair N ts rest → Expression N ts rest
+  headerExpression : {ts rest : List Tok} → Header ts rest → Expression N ts rest
 
 -- "optional Comment"
 pub data OptComment : List Tok → List Tok → Type 0 where
@@ -110,7 +110,7 @@ pub data OptComment : List Tok → List Tok → Type 0 where
 
 -- "Line: optional ws, then nothing, pair or header, optional ws, optional Comment"
 pub data Line (N : Inside) : List Tok → List Tok → Type 0 where
-  line : {ts us vs ws rest : List Tok} → OptWhitespace ts us → Expression N us vs → OptWhitespace vs ws → OptComment ws rest → Line N ts rest
+  aLine : {ts us vs ws rest : List Tok} → OptWhitespace ts us → Expression N us vs → OptWhitespace vs ws → OptComment ws rest → Line N ts rest
 
 -- "then Newline or the final Eof": a document is lines
 pub data Document (N : Inside) : List Tok → Type 0 where
