@@ -1,8 +1,12 @@
 pub mod TurnsLaws
 pub mod Reading
 pub mod Suffixes
+pub mod Views
 pub mod FitsQuietKeys
 pub mod FitsQuietScalars
 pub mod FitsQuietArrays
 pub mod FitsQuietTables
 pub mod FitsQuietDocument
+pub mod QuietFitsKeys
+pub mod QuietFitsArrays
+pub mod QuietFitsTables

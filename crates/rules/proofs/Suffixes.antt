@@ -3,7 +3,7 @@
 use mathlib.Core.Path.{_≡_, refl}
 use mathlib.Core.List.{List, [], _∷_}
 use Prim.Native.Nat.{ℕ, zero, suc, _≤_}
-use native.Mathlib.Nat.{le-refl, le-step}
+use native.Mathlib.Nat.{le-refl, le-step, not-suc-le-zero}
 use lib.ListN.{length}
 use Rattle.token.specs.declared.kind.Kind.{Kind}
 use Rattle.token.specs.declared.kind.Kind.the-variants.{Dot, Equals, Comma, LeftSquareBracket, RightSquareBracket, LeftCurlyBracket, RightCurlyBracket, Whitespace, Comment, Newline, LiteralString, BasicString, MlLiteralString, MlBasicString, Atom, Eof}
@@ -63,6 +63,13 @@ pub suffix-regular : {ts rest : List Tok} → Suffix ts rest → Regular ts → 
 suffix-regular whole g = g
 suffix-regular (later n s) g = suffix-regular s (regular-tail n g)
 
+some-token : {ts : List Tok} → OneEofLast ts → length ts ≤ 0 → ⊥
+some-token onlyEof h = not-suc-le-zero h
+some-token (beforeEof n g) h = not-suc-le-zero h
+
+pub not-empty : Regular [] → ⊥
+not-empty g = some-token (g .ends) (le-refl 0)
+
 -- behind the Eof is nothing
 pub eof-last : {a b : ℕ} {ts : List Tok} → OneEofLast (tok Eof a b ∷ ts) → ts ≡ []
 eof-last onlyEof = refl
@@ -121,9 +128,13 @@ suffix-dots (aDot v w p d) = suffix-trans (suffix-whitespace v) (later tt (suffi
 pub suffix-key : {ts rest : List Tok} → Key ts rest → Suffix ts rest
 suffix-key (aKey p d) = later (part-not-eof p) (suffix-dots d)
 
-suffix-scalar : {ts rest : List Tok} → Scalar ts rest → Suffix ts rest
+pub suffix-scalar : {ts rest : List Tok} → Scalar ts rest → Suffix ts rest
 suffix-scalar (aString s) = later (string-not-eof s) whole
 suffix-scalar (unquotedScalar d r) = later (dot-or-atom-not-eof d) (suffix-unquoted r)
+
+pub scalar-length : {t : Tok} {ts rest : List Tok} → Scalar (t ∷ ts) rest → length rest ≤ length ts
+scalar-length (aString s) = le-refl _
+scalar-length (unquotedScalar d r) = suffix-length (suffix-unquoted r)
 
 pub suffix-header : {ts rest : List Tok} → Header ts rest → Suffix ts rest
 suffix-header (tableHeader v k w) = later tt (suffix-trans (suffix-whitespace v) (suffix-trans (suffix-key k) (suffix-trans (suffix-whitespace w) (later tt whole))))
