@@ -102,7 +102,7 @@ line-end-stops (atEof noWhitespace aComment) = stopsBefore refl
 line-end-stops (atEof aWhitespace noComment) = stopsBeforeSpace tt
 line-end-stops (atEof aWhitespace aComment) = stopsBeforeSpace tt
 
-line-end-length : {ts mid rest : List Tok} → LineEnd ts mid rest → length rest ≤ length ts
+pub line-end-length : {ts mid rest : List Tok} → LineEnd ts mid rest → length rest ≤ length ts
 line-end-length (atNewline w c) = suffix-length (suffix-trans (suffix-whitespace w) (suffix-trans (suffix-comment c) (later tt whole)))
 line-end-length (atEof w c) = zero-le
 

@@ -10,3 +10,4 @@ pub mod FitsQuietDocument
 pub mod QuietFitsKeys
 pub mod QuietFitsArrays
 pub mod QuietFitsTables
+pub mod QuietFitsDocument
