@@ -11,3 +11,5 @@ pub mod QuietFitsKeys
 pub mod QuietFitsArrays
 pub mod QuietFitsTables
 pub mod QuietFitsDocument
+pub mod Nesting
+pub mod WellRead
