@@ -13,3 +13,5 @@ pub mod QuietFitsTables
 pub mod QuietFitsDocument
 pub mod Nesting
 pub mod WellRead
+pub mod SameReading
+pub mod Demand
