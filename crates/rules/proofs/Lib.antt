@@ -15,3 +15,4 @@ pub mod Nesting
 pub mod WellRead
 pub mod SameReading
 pub mod Demand
+pub mod OutcomeTheorems

@@ -66,11 +66,15 @@ NestedWithin n (tok k a b ∷ ts) = remaining (bracketing k) n (λ m. NestedWith
 abbrev pub Roomy : List Tok → List ℕ → Type 0
 Roomy ts events = length ts ≤ length events / eventSize
 
--- what is supposed of the record bytes s, the base and the event buffer: the check lets the list pass, and the above
-pub record Ready (s : List ℕ) (base : ℕ) (events : List ℕ) : Type 0 where
+-- what is supposed of the record bytes s and the base: the check lets the list pass, one Eof is last, no two Whitespace are adjacent
+pub record Proper (s : List ℕ) (base : ℕ) : Type 0 where
   pub passed : checked s base ≡ Checked.Passed
   pub ends : OneEofLast (allTokens s base)
   pub apart : NoAdjacentWhitespace (allTokens s base)
+
+-- and that no refusal comes from depth or room: refusals 6 and 7 say nothing of the grammar
+pub record Ready (s : List ℕ) (base : ℕ) (events : List ℕ) : Type 0 where
+  pub proper : Proper s base
   pub shallow : NestedWithin maxDepth (allTokens s base)
   pub roomy : Roomy (allTokens s base) events
 
