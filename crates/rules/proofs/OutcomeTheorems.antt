@@ -127,7 +127,7 @@ module _ (all : List Tok) (is : List Item) (events errors : List ℕ) where
       record {
         accepted = rw (quiet-ended is q, le-ltb room (length (eventsOf all is)) h, le-ltb (length errors / errorSize) (length (errorsOf all is)) few);
         errorless = quiet-errors all is q;
-        nonempty = λ i l. subst (λ ws. Spanned ws i) (sym (buffer-words h)) (quiet-spanned all is (drop (length (joined (eventsOf all is))) events) q i l)
+        nonempty = λ i l. subst (λ ws. Spanned ws i) (sym (buffer-words h)) (quiet-spanned all is (drop (length (joined (eventsOf all is))) events) q i l);
       }
 
 -- where the check lets the list pass, the outcome is that of the walk
@@ -160,9 +160,10 @@ module _ (s : List ℕ) (base : ℕ) (events errors : List ℕ) (proper : Proper
   -- the run is quiet exactly when the tokens fit the grammar
   pub outcome-fits : NestedWithin maxDepth tokens → Roomy tokens events → QuietRun result ↔ Fits tokens
   outcome-fits shallow roomy =
-      let e = quiet-fits base tokens laid (proper .ends) (proper .apart) shallow in
-      (λ r. e .0 (quiet-items r),
-      λ f. subst QuietRun (sym is-walked) (quiet-run tokens items events errors (le-trans (quiet-count base tokens laid (proper .ends) (proper .apart) (e .1 f)) roomy) (e .1 f)))
+      let e = quiet-fits base tokens laid (proper .ends) (proper .apart) shallow in (
+        λ r. e .0 (quiet-items r),
+        λ f. subst QuietRun (sym is-walked) (quiet-run tokens items events errors (le-trans (quiet-count base tokens laid (proper .ends) (proper .apart) (e .1 f)) roomy) (e .1 f)),
+      )
 
   -- the events in its buffer lie end to end, from the base to the end of the text
   pub outcome-ends : QuietRun result → EndToEnd base (eventsLeft result) (textEnd base tokens)

@@ -66,7 +66,7 @@ keys-fit (tok k a b ∷ ts) =
     record {
       opt = λ g q. opt-step (inKeyView k) a b ts ih g q;
       dots = λ g q ps w. dots-step (inKeyView k) a b ts ih g q ps w;
-      part = λ d g q. part-step (inKeyView k) a b ts (afterDot ts d) ih (ih .part d) g q
+      part = λ d g q. part-step (inKeyView k) a b ts (afterDot ts d) ih (ih .part d) g q;
     }
 
 pub key-fits : (m : ℕ) (ts : List Tok) → Regular ts → Quiet (key m ts .items) → KeyAround ts (key m ts .rest)
@@ -104,7 +104,7 @@ keys-valid (tok k a b ∷ ts) =
     record {
       opt = λ q. opt-valid (inKeyView k) a b ts ih q;
       dots = λ q. dots-valid (inKeyView k) a b ts ih q;
-      part = λ d q. part-valid (inKeyView k) a b ts (afterDot ts d) (afterDotValid ts) ih (ih .part d) q
+      part = λ d q. part-valid (inKeyView k) a b ts (afterDot ts d) (afterDotValid ts) ih (ih .part d) q;
     }
 
 pub key-valid : (m : ℕ) (ts : List Tok) → Quiet (key m ts .items) → keyValid ts ≡ true

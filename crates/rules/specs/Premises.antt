@@ -12,7 +12,8 @@ use Rattle.token.specs.declared.check.Checked.{Checked}
 use Rattle.token.specs.Tokens.{Tok, tok, allTokens}
 use Rattle.token.specs.Check.{checked}
 use Rattle.rules.specs.Limits.{maxDepth}
-use Rattle.rules.specs.Answer.{eventSize, Outcome}
+use Rattle.rules.specs.Entries.{documentEntry}
+use Rattle.rules.specs.Answer.{eventSize, Outcome, outcome}
 use Rattle.rules.specs.Grammar.{DotOrAtom, UnquotedRest, scalarEnds, dotOrAtom, whitespaceAtom}
 
 -- one Eof, and it is the last token
@@ -87,6 +88,10 @@ textEnd p (tok k a b ∷ ts) = textEnd b ts
 unfoldable pub eventsIn : ℕ → List ℕ → List (List ℕ)
 eventsIn zero buffer = []
 eventsIn (suc n) buffer = take eventSize buffer ∷ eventsIn n (drop eventSize buffer)
+
+-- a run of the document entry on the record bytes s, with the two buffers
+abbrev pub documentRun : List ℕ → ℕ → List ℕ → List ℕ → Outcome
+documentRun s base events errors = outcome documentEntry s base events errors
 
 -- the events that a run left in its buffer
 abbrev pub eventsLeft : Outcome → List (List ℕ)
