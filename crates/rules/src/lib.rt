@@ -1,11 +1,11 @@
 // What is right: the rules of document.rs as definitions in specs/, and here the types that the rules and the code share.
-pub mod answer;
-pub mod array;
-pub mod document;
 pub mod event;
-pub mod inline_table;
+pub mod skipping;
 pub mod keys;
 pub mod scalar;
-pub mod skipping;
-pub mod theorems;
+pub mod array;
+pub mod inline_table;
 pub mod value;
+pub mod document;
+pub mod answer;
+pub mod theorems;
