@@ -16,3 +16,6 @@ pub mod WellRead
 pub mod SameReading
 pub mod Demand
 pub mod OutcomeTheorems
+pub mod Shortness
+pub mod TurnsEnough
+pub mod DocumentTurns

@@ -50,9 +50,13 @@ unquoted-fits (tok k c d ∷ ts) =
     let ih : UnquotedFits ts = unquoted-fits ts in
     record { next = λ a b. next-step (inScalarView k) c d a b ts ih; behind = λ e f a b. behind-step (inScalarView k) c d e f a b ts ih }
 
+-- the rule of unquoted scalars leaves what follows one
+pub unquoted-rest : (ts : List Tok) (a b : ℕ) → UnquotedRest ts (unquoted ts a b .rest)
+unquoted-rest ts a b = unquoted-fits ts .next a b
+
 pub scalar-fits : {k : Kind} {x : Starting} → StartView k x → (a b : ℕ) (ts : List Tok) → Scalar (tok k a b ∷ ts) (scalarBy x a b ts .rest)
 scalar-fits (startsQuoted s) a b ts = aString s
-scalar-fits (startsUnquoted d) a b ts = unquotedScalar d (unquoted-fits ts .next a b)
+scalar-fits (startsUnquoted d) a b ts = unquotedScalar d (unquoted-rest ts a b)
 
 -- a quiet walk over what brackets hold has read it
 abbrev pub NestFits : Inside → Nest → Type 0
