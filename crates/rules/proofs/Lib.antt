@@ -15,6 +15,7 @@ pub mod Nesting
 pub mod WellRead
 pub mod SameReading
 pub mod Demand
+pub mod FittingTexts
 pub mod OutcomeTheorems
 pub mod Shortness
 pub mod TurnsEnough
