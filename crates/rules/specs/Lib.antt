@@ -17,3 +17,5 @@ pub mod Entries
 pub mod Words
 pub mod Answer
 pub mod Quiet
+pub mod TextWords
+pub mod Texts

@@ -8,3 +8,4 @@ pub mod inline_table;
 pub mod value;
 pub mod document;
 pub mod answer;
+pub mod theorems;
