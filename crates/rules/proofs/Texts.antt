@@ -34,12 +34,12 @@ further-texts-in-buffers w = refl
 -- text 4 once more, each byte and each word written out
 pub text-four
     : (w : ℕ) → outcome documentEntry
-      (1 ∷ 0 ∷ 0 ∷ 0 ∷ 4 ∷ 0 ∷ 1 ∷ 0 ∷ 0 ∷ 0 ∷ 4 ∷ 0 ∷ 1 ∷ 0 ∷ 0 ∷ 0 ∷ 15 ∷ 0 ∷ 1 ∷ 0 ∷ 0 ∷ 0 ∷ 5 ∷ 0 ∷ 1 ∷ 0 ∷ 0 ∷ 0 ∷ 10 ∷ 0 ∷ 0 ∷ 0 ∷ 0 ∷ 0 ∷ 16 ∷ 0 ∷ [])
-      0 (w ∷ w ∷ w ∷ w ∷ w ∷ w ∷ w ∷ w ∷ w ∷ w ∷ w ∷ w ∷ w ∷ w ∷ []) (w ∷ w ∷ w ∷ w ∷ w ∷ w ∷ w ∷ w ∷ [])
+    (1 ∷ 0 ∷ 0 ∷ 0 ∷ 4 ∷ 0 ∷ 1 ∷ 0 ∷ 0 ∷ 0 ∷ 4 ∷ 0 ∷ 1 ∷ 0 ∷ 0 ∷ 0 ∷ 15 ∷ 0 ∷ 1 ∷ 0 ∷ 0 ∷ 0 ∷ 5 ∷ 0 ∷ 1 ∷ 0 ∷ 0 ∷ 0 ∷ 10 ∷ 0 ∷ 0 ∷ 0 ∷ 0 ∷ 0 ∷ 16 ∷ 0 ∷ [])
+    0 (w ∷ w ∷ w ∷ w ∷ w ∷ w ∷ w ∷ w ∷ w ∷ w ∷ w ∷ w ∷ w ∷ w ∷ []) (w ∷ w ∷ w ∷ w ∷ w ∷ w ∷ w ∷ w ∷ [])
     ≡ record {
       answer = record { refusal = 0; place = 0; events = 3; errors = 1 };
       events = 3 ∷ 0 ∷ 0 ∷ 2 ∷ 5 ∷ 0 ∷ 2 ∷ 3 ∷ 16 ∷ 0 ∷ 4 ∷ 5 ∷ w ∷ w ∷ [];
-      errors = 1 ∷ 2 ∷ 0 ∷ 4 ∷ 4 ∷ 4 ∷ w ∷ w ∷ []
+      errors = 1 ∷ 2 ∷ 0 ∷ 4 ∷ 4 ∷ 4 ∷ w ∷ w ∷ [];
     }
 unfolding turns onOpen lookedUp kindOf lengthAt kindNumberAt tokensFrom allTokens checkedFrom checked outcome walked filled
 text-four w = refl

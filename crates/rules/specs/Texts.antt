@@ -23,54 +23,54 @@ unfoldable pub texts : List Text
 texts =
     -- 1: the empty document
     at documentEntry (eof ∷ []) [] []
-    ∷ -- 2: `a=1`
-    at documentEntry (atom 1 ∷ equals ∷ atom 1 ∷ eof ∷ [])
+    -- 2: `a=1`
+    ∷ at documentEntry (atom 1 ∷ equals ∷ atom 1 ∷ eof ∷ [])
     (simpleKey 0 1 ∷ keyValSep 1 2 ∷ scalar 2 3 ∷ [])
     []
-    ∷ -- 3: `[a]` and a newline
-    at documentEntry (openSquare ∷ atom 1 ∷ closeSquare ∷ lineEnd ∷ eof ∷ [])
+    -- 3: `[a]` and a newline
+    ∷ at documentEntry (openSquare ∷ atom 1 ∷ closeSquare ∷ lineEnd ∷ eof ∷ [])
     (stdTableOpen 0 1 ∷ simpleKey 1 2 ∷ stdTableClose 2 3 ∷ newline 3 4 ∷ [])
     []
-    ∷ -- 4: `[[a]` and a newline
-    at documentEntry (openSquare ∷ openSquare ∷ atom 1 ∷ closeSquare ∷ lineEnd ∷ eof ∷ [])
+    -- 4: `[[a]` and a newline
+    ∷ at documentEntry (openSquare ∷ openSquare ∷ atom 1 ∷ closeSquare ∷ lineEnd ∷ eof ∷ [])
     (arrayTableOpen 0 2 ∷ simpleKey 2 3 ∷ newline 4 5 ∷ [])
     (reported 1 2 0 4 4 4 ∷ [])
-    ∷ -- 5: `[=` and a newline; no report
-    at documentEntry (openSquare ∷ equals ∷ lineEnd ∷ eof ∷ [])
+    -- 5: `[=` and a newline; no report
+    ∷ at documentEntry (openSquare ∷ equals ∷ lineEnd ∷ eof ∷ [])
     (stdTableOpen 0 1 ∷ simpleKey 1 1 ∷ error 1 2 ∷ newline 2 3 ∷ [])
     []
-    ∷ -- 6: `x={[x]}`
-    at documentEntry (atom 1 ∷ equals ∷ openCurly ∷ openSquare ∷ atom 1 ∷ closeSquare ∷ closeCurly ∷ eof ∷ [])
+    -- 6: `x={[x]}`
+    ∷ at documentEntry (atom 1 ∷ equals ∷ openCurly ∷ openSquare ∷ atom 1 ∷ closeSquare ∷ closeCurly ∷ eof ∷ [])
     (simpleKey 0 1 ∷ keyValSep 1 2 ∷ inlineTableOpen 2 3 ∷ error 3 4 ∷ error 4 5 ∷ arrayClose 5 6 ∷ inlineTableClose 6 7 ∷ [])
     (reported 17 4 2 3 3 3 ∷ [])
-    ∷ -- 7: `x={a=}`
-    at documentEntry (atom 1 ∷ equals ∷ openCurly ∷ atom 1 ∷ equals ∷ closeCurly ∷ eof ∷ [])
+    -- 7: `x={a=}`
+    ∷ at documentEntry (atom 1 ∷ equals ∷ openCurly ∷ atom 1 ∷ equals ∷ closeCurly ∷ eof ∷ [])
     (simpleKey 0 1 ∷ keyValSep 1 2 ∷ inlineTableOpen 2 3 ∷ simpleKey 3 4 ∷ keyValSep 4 5 ∷ inlineTableClose 5 6 ∷ [])
     (reported 19 1 2 3 5 5 ∷ [])
-    ∷ -- 8: `x={}`
-    at documentEntry (atom 1 ∷ equals ∷ openCurly ∷ closeCurly ∷ eof ∷ [])
+    -- 8: `x={}`
+    ∷ at documentEntry (atom 1 ∷ equals ∷ openCurly ∷ closeCurly ∷ eof ∷ [])
     (simpleKey 0 1 ∷ keyValSep 1 2 ∷ inlineTableOpen 2 3 ∷ inlineTableClose 3 4 ∷ [])
     []
-    ∷ -- 9: `x={a=[`; the inline table is closed by an array_close
-    at documentEntry (atom 1 ∷ equals ∷ openCurly ∷ atom 1 ∷ equals ∷ openSquare ∷ eof ∷ [])
+    -- 9: `x={a=[`; the inline table is closed by an array_close
+    ∷ at documentEntry (atom 1 ∷ equals ∷ openCurly ∷ atom 1 ∷ equals ∷ openSquare ∷ eof ∷ [])
     (simpleKey 0 1 ∷ keyValSep 1 2 ∷ inlineTableOpen 2 3 ∷ simpleKey 3 4 ∷ keyValSep 4 5 ∷ arrayOpen 5 6 ∷ arrayClose 6 6 ∷ arrayClose 6 6 ∷ [])
     (reported 7 2 5 6 6 6 ∷ reported 14 10 2 3 6 6 ∷ [])
-    ∷ -- 10: the key entry, the empty list
-    at keyEntry [] [] (reported 4 4 0 0 0 0 ∷ [])
-    ∷ -- 11: the key entry, `a.` without Eof
-    at keyEntry (atom 1 ∷ dot ∷ [])
+    -- 10: the key entry, the empty list
+    ∷ at keyEntry [] [] (reported 4 4 0 0 0 0 ∷ [])
+    -- 11: the key entry, `a.` without Eof
+    ∷ at keyEntry (atom 1 ∷ dot ∷ [])
     (simpleKey 0 1 ∷ keySep 1 2 ∷ simpleKey 2 2 ∷ [])
     []
-    ∷ -- 12: `x=[1 2,]`; one scalar
-    at documentEntry (atom 1 ∷ equals ∷ openSquare ∷ atom 1 ∷ space ∷ atom 1 ∷ comma ∷ closeSquare ∷ eof ∷ [])
+    -- 12: `x=[1 2,]`; one scalar
+    ∷ at documentEntry (atom 1 ∷ equals ∷ openSquare ∷ atom 1 ∷ space ∷ atom 1 ∷ comma ∷ closeSquare ∷ eof ∷ [])
     (simpleKey 0 1 ∷ keyValSep 1 2 ∷ arrayOpen 2 3 ∷ scalar 3 6 ∷ valueSep 6 7 ∷ arrayClose 7 8 ∷ [])
     []
-    ∷ -- 13: `x=[1 "b"]`
-    at documentEntry (atom 1 ∷ equals ∷ openSquare ∷ atom 1 ∷ space ∷ basicString 3 ∷ closeSquare ∷ eof ∷ [])
+    -- 13: `x=[1 "b"]`
+    ∷ at documentEntry (atom 1 ∷ equals ∷ openSquare ∷ atom 1 ∷ space ∷ basicString 3 ∷ closeSquare ∷ eof ∷ [])
     (simpleKey 0 1 ∷ keyValSep 1 2 ∷ arrayOpen 2 3 ∷ scalar 3 4 ∷ whitespace 4 5 ∷ valueSep 5 5 ∷ basicScalar 5 8 ∷ arrayClose 8 9 ∷ [])
     (reported 10 8 2 3 5 5 ∷ [])
-    ∷ -- 14: `x=[}]`
-    at documentEntry (atom 1 ∷ equals ∷ openSquare ∷ closeCurly ∷ closeSquare ∷ eof ∷ [])
+    -- 14: `x=[}]`
+    ∷ at documentEntry (atom 1 ∷ equals ∷ openSquare ∷ closeCurly ∷ closeSquare ∷ eof ∷ [])
     (simpleKey 0 1 ∷ keyValSep 1 2 ∷ arrayOpen 2 3 ∷ inlineTableOpen 3 3 ∷ inlineTableClose 3 4 ∷ arrayClose 4 5 ∷ [])
     (reported 11 9 3 4 3 3 ∷ [])
     ∷ []
@@ -83,16 +83,16 @@ furtherTexts =
     (simpleKey 0 1 ∷ keyValSep 1 2 ∷ arrayOpen 2 3 ∷ scalar 3 4 ∷ valueSep 4 5 ∷ scalar 5 6 ∷ arrayClose 6 7 ∷ newline 7 8
     ∷ simpleKey 8 9 ∷ keyValSep 9 10 ∷ inlineTableOpen 10 11 ∷ simpleKey 11 12 ∷ keyValSep 12 13 ∷ inlineTableClose 13 14 ∷ [])
     (reported 19 1 10 11 4 5 ∷ [])
-    ∷ -- `[=ledger]` and a newline: an empty key, and no report
-    at documentEntry (openSquare ∷ equals ∷ atom 6 ∷ closeSquare ∷ lineEnd ∷ eof ∷ [])
+    -- `[=ledger]` and a newline: an empty key, and no report
+    ∷ at documentEntry (openSquare ∷ equals ∷ atom 6 ∷ closeSquare ∷ lineEnd ∷ eof ∷ [])
     (stdTableOpen 0 1 ∷ simpleKey 1 1 ∷ error 1 2 ∷ error 2 8 ∷ error 8 9 ∷ newline 9 10 ∷ [])
     []
-    ∷ -- `[]` and a newline: no report and no error event
-    at documentEntry (openSquare ∷ closeSquare ∷ lineEnd ∷ eof ∷ [])
+    -- `[]` and a newline: no report and no error event
+    ∷ at documentEntry (openSquare ∷ closeSquare ∷ lineEnd ∷ eof ∷ [])
     (stdTableOpen 0 1 ∷ simpleKey 1 1 ∷ stdTableClose 1 2 ∷ newline 2 3 ∷ [])
     []
-    ∷ -- `a=` and a newline: no report and no error event
-    at documentEntry (atom 1 ∷ equals ∷ lineEnd ∷ eof ∷ [])
+    -- `a=` and a newline: no report and no error event
+    ∷ at documentEntry (atom 1 ∷ equals ∷ lineEnd ∷ eof ∷ [])
     (simpleKey 0 1 ∷ keyValSep 1 2 ∷ scalar 2 2 ∷ newline 2 3 ∷ [])
     []
     ∷ []
@@ -125,7 +125,7 @@ writtenOutcomes w (t ∷ ts) =
     record {
       answer = record { refusal = 0; place = 0; events = length (t .events); errors = length (t .errors) };
       events = joined (t .events) ++ words w (room - eventSize * length (t .events));
-      errors = joined (t .errors) ++ words w (room - errorSize * length (t .errors))
+      errors = joined (t .errors) ++ words w (room - errorSize * length (t .errors));
     }
     ∷ writtenOutcomes w ts
 

@@ -5,17 +5,14 @@ ghost use Rattle.rules.specs.Texts.{texts, furtherTexts, asRuled, asWrit
 // The rules read each of document 01's fourteen texts as it was read by hand.
 pub fn texts_as_read()
     ensures { λ _. ⌜ asRuled texts ≡ asWritten texts ⌝ }
-{
-}
+{}
 
 // From record bytes: the answer, and every word of both buffers, which all hold `word` beforehand.
 pub fn texts_in_buffers(word: u32)
     ensures { λ _. ⌜ ruledOutcomes word texts ≡ writtenOutcomes word texts ⌝ }
-{
-}
+{}
 
 // Further texts, not of document 01, are read as the oracle reads them.
 pub fn further_texts_as_read()
     ensures { λ _. ⌜ asRuled furtherTexts ≡ asWritten furtherTexts ⌝ }
-{
-}
+{}
