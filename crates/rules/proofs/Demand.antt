@@ -14,7 +14,7 @@ use Rattle.rules.specs.Entries.{parseDocument}
 use Rattle.rules.specs.Words.{eventsOf}
 use Rattle.rules.specs.Quiet.{Quiet}
 use Rattle.rules.specs.Grammar.{FitsWithin, Fits}
-use Rattle.rules.specs.Premises.{OneEofLast, NoAdjacentWhitespace, NestedWithin, textEnd, EndToEnd, noEvent, anEvent, Nests, SameButForCuts, bothEnd, sameToken}
+use Rattle.rules.specs.Premises.{NestedWithin, Regular, textEnd, EndToEnd, noEvent, anEvent, Nests, SameButForCuts, bothEnd, sameToken}
 use Rattle.rules.proofs.Reading.{Reads}
 use Rattle.rules.proofs.FitsQuietDocument.{Whole, document-walk}
 use Rattle.rules.proofs.QuietFitsDocument.{document-fits}
@@ -22,13 +22,13 @@ use Rattle.rules.proofs.Nesting.{fits-within}
 use Rattle.rules.proofs.WellRead.{ReadsWell, reads-well, reads-nest}
 use Rattle.rules.proofs.SameReading.{reads-same, words-tell}
 
-module _ (base : ℕ) (ts : List Tok) (laid : Laid base ts) (ends : OneEofLast ts) (apart : NoAdjacentWhitespace ts) where
+module _ (base : ℕ) (ts : List Tok) (laid : Laid base ts) (regular : Regular ts) where
   -- a list that fits is read
   fits-walk : FitsWithin maxDepth ts → Whole (parseDocument ts) ts
   fits-walk d = document-walk maxDepth ts d
 
   quiet-within : Quiet (parseDocument ts .items) → FitsWithin maxDepth ts
-  quiet-within q = document-fits maxDepth ts (record { ends = ends; apart = apart }) q
+  quiet-within q = document-fits maxDepth ts regular q
 
   quiet-read : Quiet (parseDocument ts .items) → Whole (parseDocument ts) ts
   quiet-read q = fits-walk (quiet-within q)
@@ -63,13 +63,13 @@ eof-same : {q r a b c d : ℕ} → q ≡ r → Laid q (tok Eof a b ∷ []) → L
 eof-same {q} {r} {a} {b} {c} {d} e (laidToken w l) (laidToken w' m) = subst₂ (λ x y. SameButForCuts (tok Eof q b ∷ []) (tok Eof x y ∷ [])) e (w ∙ e ∙ sym w') (sameToken bothEnd)
 
 -- two quiet runs from the same base with the same event words: the lists are the same but for cuts
-pub quiet-same : (base : ℕ) (ts us : List Tok) → Laid base ts → Laid base us → OneEofLast ts → OneEofLast us → NoAdjacentWhitespace ts → NoAdjacentWhitespace us
+pub quiet-same : (base : ℕ) (ts us : List Tok) → Laid base ts → Laid base us → Regular ts → Regular us
     → Quiet (parseDocument ts .items) → Quiet (parseDocument us .items) → eventsOf ts (parseDocument ts .items) ≡ eventsOf us (parseDocument us .items) → SameButForCuts ts us
-quiet-same base ts us l m ends ends' apart apart' q r e =
-    let w = quiet-read base ts l ends apart q in
-    let v = quiet-read base us m ends' apart' r in
+quiet-same base ts us l m g h q r e =
+    let w = quiet-read base ts l g q in
+    let v = quiet-read base us m h r in
     let i = words-tell ts us (parseDocument ts .items) (parseDocument us .items) q r e in
     let y = subst (λ x. Reads x us (tok Eof (v .0) (v .1) ∷ []) [] []) (sym i) (v .2 .0) in
-    let h = reads-well ts (w .2 .0) l in
-    let g = reads-well ts y m in
-    reads-same (w .2 .0) y l m (eof-same (ends-once (h .endToEnd) (g .endToEnd)) (h .laid) (g .laid))
+    let c = reads-well ts (w .2 .0) l in
+    let d = reads-well ts y m in
+    reads-same (w .2 .0) y l m (eof-same (ends-once (c .endToEnd) (d .endToEnd)) (c .laid) (d .laid))

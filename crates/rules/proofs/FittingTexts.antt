@@ -69,4 +69,4 @@ unfolding text7 turns onOpen
 text7-loud q = q .1 .1 .1 .1 .1
 
 text7-does-not-fit : Fits text7 → ⊥
-text7-does-not-fit f = text7-loud (quiet-fits 0 text7 text7-laid text7-ends text7-apart text7-shallow .1 f)
+text7-does-not-fit f = text7-loud (quiet-fits 0 text7 text7-laid (record { ends = text7-ends; apart = text7-apart }) text7-shallow .1 f)

@@ -1,3 +1,6 @@
+pub mod BufferLaws
+pub mod OutcomeLaws
+pub mod Texts
 pub mod TurnsLaws
 pub mod Reading
 pub mod Suffixes

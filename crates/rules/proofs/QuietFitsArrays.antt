@@ -22,8 +22,9 @@ use Rattle.rules.specs.Scalar.{unquotedStep, spaceStep, unquoted, behind
 use Rattle.rules.specs.Array.{Nest, arrayStep, arrayTurn}
 use Rattle.rules.specs.Quiet.{Quiet}
 use Rattle.rules.specs.Grammar.{itIsDot, itIsAtom, UnquotedRest, scalarEnds, dotOrAtom, whitespaceAtom, Scalar, aString, unquotedScalar, Inside, Value, aScalar, anArray, anInlineTable, Gap, gapEnds, whitespaceInGap, newlineInGap, commentInGap, lastValue, trailingComma, moreValues, ArrayInside, noValues, someValues}
+use Rattle.rules.specs.Premises.{Regular}
 use Rattle.rules.proofs.Reading.{quiet-then}
-use Rattle.rules.proofs.Suffixes.{suffix-length, Regular, regular-tail, suffix-regular, not-empty, eof-last, suffix-scalar, scalar-length, NestSuffix}
+use Rattle.rules.proofs.Suffixes.{suffix-length, regular-tail, suffix-regular, not-empty, eof-last, suffix-scalar, scalar-length, NestSuffix}
 use Rattle.rules.proofs.Views.{InScalarView, scalarDot, scalarAtom, scalarWhitespace, scalarOther, inScalarView, InLineView, lineWhitespace, lineComment, lineNewline, lineEof, lineOther, inLineView, StartView, startsQuoted, startsUnquoted, InArrayView, arrayWhitespace, arrayComment, arrayNewline, arrayEof, arrayCommas, arrayEquals, arrayOpenCurly, arrayCloseCurly, arrayOpenSquare, arrayCloseSquare, arrayScalar, inArrayView}
 use Rattle.rules.specs.Receiver as receiver
 

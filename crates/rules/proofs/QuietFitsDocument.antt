@@ -21,9 +21,9 @@ use Rattle.rules.specs.Table.{nextBy, nextTokenIf, unclosed, closed, hea
 use Rattle.rules.specs.Document.{onExpressionKeyValSep, noEquals, expression, documentStep, documentTurn, document}
 use Rattle.rules.specs.Quiet.{Quiet}
 use Rattle.rules.specs.Grammar.{OptWhitespace, noWhitespace, aWhitespace, KeyPart, Key, aKey, Inside, Value, aScalar, anArray, anInlineTable, Pair, aPair, Header, tableHeader, arrayTableHeader, Expression, noExpression, pairExpression, headerExpression, noComment, aComment, aLine, Document, lineAndMore, lastLine, Nested, FitsWithin}
-use Rattle.rules.specs.Premises.{OneEofLast, onlyEof, beforeEof}
+use Rattle.rules.specs.Premises.{OneEofLast, onlyEof, beforeEof, Regular}
 use Rattle.rules.proofs.Reading.{quiet-then}
-use Rattle.rules.proofs.Suffixes.{whole, later, suffix-trans, suffix-length, Regular, regular-tail, suffix-regular, not-empty, widen, whitespace-merge, part-not-eof, suffix-whitespace, suffix-comment, suffix-dots, suffix-key, suffix-header, NestSuffix, suffix-value, suffix-pair, suffix-nested}
+use Rattle.rules.proofs.Suffixes.{whole, later, suffix-trans, suffix-length, regular-tail, suffix-regular, not-empty, widen, whitespace-merge, part-not-eof, suffix-whitespace, suffix-comment, suffix-dots, suffix-key, suffix-header, NestSuffix, suffix-value, suffix-pair, suffix-nested}
 use Rattle.rules.proofs.Views.{InLineView, lineWhitespace, lineComment, lineNewline, lineEof, lineOther, inLineView, InValueView, valueNothing, valueEquals, valueOpenCurly, valueCloseCurly, valueOpenSquare, valueCloseSquare, valueScalar, inValueView, InDocumentView, documentOpenSquare, documentCloseSquare, documentKey, documentEquals, documentDot, documentStray, documentWhitespace, documentNewline, documentComment, documentEof, inDocumentView, SameView, sameKinds, otherKinds, sameView}
 use Rattle.rules.proofs.FitsQuietDocument.{LineEnd, atNewline, atEof, line-end-length}
 use Rattle.rules.proofs.QuietFitsKeys.{keys-fit, key-fits, key-valid}

@@ -11,7 +11,8 @@ use Rattle.rules.specs.Out.{Out, done}
 use Rattle.rules.specs.Keys.{afterPartStep, dotStep, partStep, optDotKeys, dotKeys, afterDot, afterPartValid, dotValid, partValid, optDotKeysValid, dotKeysValid, afterDotValid, key, keyValid}
 use Rattle.rules.specs.Quiet.{Quiet}
 use Rattle.rules.specs.Grammar.{OptWhitespace, noWhitespace, aWhitespace, KeyPart, Dots, noDot, aDot, Key, aKey}
-use Rattle.rules.proofs.Suffixes.{Regular, regular-tail, widen, part-not-eof}
+use Rattle.rules.specs.Premises.{Regular}
+use Rattle.rules.proofs.Suffixes.{regular-tail, widen, part-not-eof}
 use Rattle.rules.proofs.Views.{InKeyView, viewPart, viewWhitespace, viewDot, viewOther, inKeyView}
 
 -- dots, then optional whitespace

@@ -20,8 +20,9 @@ use Rattle.rules.specs.InlineTable.{actionOf, progress, trailing, inline
 use Rattle.rules.specs.Nest.{onOpen}
 use Rattle.rules.specs.Quiet.{Quiet}
 use Rattle.rules.specs.Grammar.{OptWhitespace, noWhitespace, literal, basic, multiLineLiteral, multiLineBasic, KeyPart, atomPart, stringPart, Key, aKey, itIsDot, itIsAtom, Inside, Value, aScalar, anArray, anInlineTable, aPair, Pairs, lastPair, morePairs, TableInside, noPairs, somePairs, Nested}
+use Rattle.rules.specs.Premises.{Regular}
 use Rattle.rules.proofs.Reading.{quiet-then}
-use Rattle.rules.proofs.Suffixes.{suffix-trans, suffix-length, Regular, regular-tail, suffix-regular, widen, whitespace-merge, part-not-eof, suffix-whitespace, suffix-dots, suffix-scalar, scalar-length, NestSuffix, suffix-nested}
+use Rattle.rules.proofs.Suffixes.{suffix-trans, suffix-length, regular-tail, suffix-regular, widen, whitespace-merge, part-not-eof, suffix-whitespace, suffix-dots, suffix-scalar, scalar-length, NestSuffix, suffix-nested}
 use Rattle.rules.proofs.Views.{StartView, startsQuoted, startsUnquoted}
 use Rattle.rules.proofs.QuietFitsKeys.{keys-fit}
 use Rattle.rules.proofs.QuietFitsArrays.{scalar-fits, NestFits, values-fit}

@@ -10,7 +10,7 @@ use Rattle.token.specs.declared.kind.Kind.the-variants.{Dot, Equals, Comma, Lef
 use Rattle.token.specs.Tokens.{Tok, tok}
 use Rattle.rules.specs.declared.skipping.Bracket.{Bracket}
 use Rattle.rules.specs.Grammar.{OptWhitespace, noWhitespace, aWhitespace, AnyString, literal, basic, multiLineLiteral, multiLineBasic, KeyPart, atomPart, stringPart, Dots, noDot, aDot, Key, aKey, DotOrAtom, itIsDot, itIsAtom, UnquotedRest, scalarEnds, dotOrAtom, whitespaceAtom, Scalar, aString, unquotedScalar, Inside, Value, aScalar, anArray, anInlineTable, Gap, gapEnds, whitespaceInGap, newlineInGap, commentInGap, ArrayValues, lastValue, trailingComma, moreValues, ArrayInside, noValues, someValues, Pair, aPair, Pairs, lastPair, morePairs, TableInside, noPairs, somePairs, Header, tableHeader, arrayTableHeader, OptComment, noComment, aComment, Nested}
-use Rattle.rules.specs.Premises.{OneEofLast, onlyEof, beforeEof, NoAdjacentWhitespace, noToken, oneToken, notBoth}
+use Rattle.rules.specs.Premises.{OneEofLast, onlyEof, beforeEof, NoAdjacentWhitespace, noToken, oneToken, notBoth, Regular}
 
 -- is a kind other than Eof?
 abbrev pub NotEof : Kind → Type 0
@@ -42,11 +42,6 @@ suffix-trans (later n r) s = later n (suffix-trans r s)
 pub suffix-length : {ts rest : List Tok} → Suffix ts rest → length rest ≤ length ts
 suffix-length {ts} whole = le-refl (length ts)
 suffix-length (later n r) = le-step (suffix-length r)
-
--- the premises that the grammar needs: one Eof, at the end, and no adjacent whitespace
-pub record Regular (ts : List Tok) : Type 0 where
-  pub ends : OneEofLast ts
-  pub apart : NoAdjacentWhitespace ts
 
 apart-tail : {t : Tok} {ts : List Tok} → NoAdjacentWhitespace (t ∷ ts) → NoAdjacentWhitespace ts
 apart-tail oneToken = noToken

@@ -67,15 +67,16 @@ NestedWithin n (tok k a b ∷ ts) = remaining (bracketing k) n (λ m. NestedWith
 abbrev pub Roomy : List Tok → List ℕ → Type 0
 Roomy ts events = length ts ≤ length events / eventSize
 
--- what is supposed of the record bytes s and the base: the check lets the list pass, one Eof is last, no two Whitespace are adjacent
-pub record Proper (s : List ℕ) (base : ℕ) : Type 0 where
-  pub passed : checked s base ≡ Checked.Passed
-  pub ends : OneEofLast (allTokens s base)
-  pub apart : NoAdjacentWhitespace (allTokens s base)
+-- what is supposed of the tokens
+pub record Regular (ts : List Tok) : Type 0 where
+  pub ends : OneEofLast ts
+  pub apart : NoAdjacentWhitespace ts
 
--- and that no refusal comes from depth or room: refusals 6 and 7 say nothing of the grammar
+-- and, for a list that fits to be quiet, of the record bytes s, the base and the event buffer: that no refusal comes, which says nothing of
+-- the grammar. The check lets the list pass (refusals 1 to 5), and there is depth (6) and room (7); of errors there are none (8).
 pub record Ready (s : List ℕ) (base : ℕ) (events : List ℕ) : Type 0 where
-  pub proper : Proper s base
+  pub passed : checked s base ≡ Checked.Passed
+  pub regular : Regular (allTokens s base)
   pub shallow : NestedWithin maxDepth (allTokens s base)
   pub roomy : Roomy (allTokens s base) events
 
