@@ -3,7 +3,7 @@
 use mathlib.Core.Path.{_≡_, refl, sym, subst, subst₂, _∙_}
 use mathlib.Core.Logic.{_↔_}
 use mathlib.Core.List.{List, [], _∷_}
-use Prim.Native.Nat.{ℕ, _≤_}
+use Prim.Native.Nat.{ℕ, _-_, _≤_}
 use native.Mathlib.Omega.{arith}
 use lib.ListN.{length}
 use Rattle.token.specs.declared.kind.Kind.the-variants.{Eof}
@@ -19,6 +19,7 @@ use Rattle.rules.proofs.Reading.{Reads}
 use Rattle.rules.proofs.FitsQuietDocument.{Whole, document-walk}
 use Rattle.rules.proofs.QuietFitsDocument.{document-fits}
 use Rattle.rules.proofs.Nesting.{fits-within}
+use Rattle.rules.proofs.NestingBack.{within-fits}
 use Rattle.rules.proofs.WellRead.{ReadsWell, reads-well, reads-nest}
 use Rattle.rules.proofs.SameReading.{reads-same, words-tell}
 
@@ -40,6 +41,10 @@ module _ (base : ℕ) (ts : List Tok) (laid : Laid base ts) (regular : Regular t
   pub quiet-fits : NestedWithin maxDepth ts → Quiet (parseDocument ts .items) ↔ Fits ts
   quiet-fits shallow = (λ q. (maxDepth, quiet-within q), λ f. reads-well ts (fits-walk (fits-within (f .0) maxDepth (f .1) shallow) .2 .0) laid .quiet)
 
+  -- with no premise on the nesting: exactly when the list fits with at most 64 arrays and inline tables open
+  pub quiet-fits-within : Quiet (parseDocument ts .items) ↔ FitsWithin maxDepth ts
+  quiet-fits-within = (quiet-within, λ d. reads-well ts (fits-walk d .2 .0) laid .quiet)
+
   -- then the events lie end to end from the base to the end of the text
   pub quiet-ends : Quiet (parseDocument ts .items) → EndToEnd base (eventsOf ts (parseDocument ts .items)) (textEnd base ts)
   quiet-ends q = let w = quiet-well q in subst (λ x. EndToEnd base (eventsOf ts (parseDocument ts .items)) x) (sym (w .same ∙ eof-end (w .laid))) (w .endToEnd)
@@ -54,6 +59,10 @@ module _ (base : ℕ) (ts : List Tok) (laid : Laid base ts) (regular : Regular t
   -- there are no more events than tokens
   pub quiet-count : Quiet (parseDocument ts .items) → length (eventsOf ts (parseDocument ts .items)) ≤ length ts
   quiet-count q = let w = quiet-well q in omega (arith, w .few)
+
+-- the premise on the nesting asks nothing more of a list that fits than that it fits with at most 64 arrays and inline tables open
+pub nesting-exact : (ts : List Tok) → FitsWithin maxDepth ts ↔ (Fits ts × NestedWithin maxDepth ts)
+nesting-exact ts = (λ d. ((maxDepth, d), within-fits (maxDepth - 2) d), λ f. fits-within (f .0 .0) maxDepth (f .0 .1) (f .1))
 
 ends-once : {p q r : ℕ} {events : List (List ℕ)} → EndToEnd p events q → EndToEnd p events r → q ≡ r
 ends-once noEvent noEvent = refl

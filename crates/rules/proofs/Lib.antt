@@ -15,6 +15,7 @@ pub mod QuietFitsArrays
 pub mod QuietFitsTables
 pub mod QuietFitsDocument
 pub mod Nesting
+pub mod NestingBack
 pub mod WellRead
 pub mod SameReading
 pub mod Demand

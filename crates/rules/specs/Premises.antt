@@ -1,5 +1,5 @@
--- Demand 3 in definitions: what is supposed of a token list, and what is said of the events of a quiet run. Each is a property of the list or
--- of the words in a buffer, and none mentions the rules. Assumes nothing.
+-- Demand 3 in definitions: what is supposed of a token list, and what is said of the events of a quiet run. The first are properties of the
+-- list, the second of words in a buffer; only `documentRun` and `eventsLeft` have to do with a run. Assumes nothing.
 use Prim.Native.Nat.{ℕ, zero, suc, _≤_, _/_}
 use mathlib.Core.Path.{_≡_}
 use mathlib.Core.Bool.{cond}
@@ -58,7 +58,8 @@ remaining neither n rest = rest n
 
 -- at no point of the list are there more than n opening brackets beyond the closing ones. It is a condition on the list alone. The brackets
 -- of headers count too. That is harmless: in a list that fits they are at most two, stand where nothing else is open, and are closed on
--- their line, so with n at least 2 the condition says of such a list only that at most n arrays and inline tables are open at a time.
+-- their line, so with n at least 2 the condition says of such a list only that at most n arrays and inline tables are open at a time
+-- (`nesting-exact` in proofs/Demand.antt).
 abbrev pub NestedWithin : ℕ → List Tok → Type 0
 NestedWithin n [] = Unit {0}
 NestedWithin n (tok k a b ∷ ts) = remaining (bracketing k) n (λ m. NestedWithin m ts)
