@@ -7,4 +7,5 @@ pub mod inline_table;
 pub mod keys;
 pub mod scalar;
 pub mod skipping;
+pub mod theorems;
 pub mod value;

@@ -145,3 +145,36 @@ checked-records s base p h k l e =
     let z : count s - 0 ≡ count s = omega arith in
     let l' : base ≤ maxEnd = omega (arith, l, e) in
     sym (simp (eq-eqb _ _ h, le-ltb _ _ k, le-ltb _ _ l') (rw (z, e)))
+
+-- a refusal has a number other than 0
+abbrev Numbered : Checked → Type 0
+Numbered Checked.Passed = Unit {0}
+Numbered (Checked.Refused zero i) = ⊥
+Numbered (Checked.Refused (suc r) i) = Unit {0}
+
+at-numbered : (r i : ℕ) (rest : Checked) → Numbered rest → Numbered (refusedAt r i rest)
+at-numbered zero i rest n = n
+at-numbered (suc r) i rest n = tt
+
+from-numbered : (n : ℕ) (s : List ℕ) (i p : ℕ) → Numbered (checkedFrom n s i p)
+unfolding checkedFrom
+from-numbered zero s i p = tt
+from-numbered (suc n) s i p = at-numbered (refusalAt s i p) i (checkedFrom n s (suc i) (p + lengthAt s i)) (from-numbered n s (suc i) (p + lengthAt s i))
+
+cond-numbered : (t : Bool) (a b : Checked) → Numbered a → Numbered b → Numbered (cond t a b)
+cond-numbered true a b m n = m
+cond-numbered false a b m n = n
+
+checked-numbered : (s : List ℕ) (base : ℕ) → Numbered (checked s base)
+unfolding checked
+checked-numbered s base =
+    cond-numbered (eqb (length s % 6) 0) _ _
+    (cond-numbered (ltb maxRecords (count s)) _ _ tt (cond-numbered (ltb maxEnd base) _ _ tt (from-numbered (count s) s 0 base)))
+    tt
+
+numbered : (r i : ℕ) → Numbered (Checked.Refused r i) → r ≡ 0 → ⊥
+numbered zero i n e = n
+numbered (suc r) i n e = omega arith
+
+pub refused-number : (s : List ℕ) (base r i : ℕ) → checked s base ≡ Checked.Refused r i → r ≡ 0 → ⊥
+refused-number s base r i e = numbered r i (subst Numbered e (checked-numbered s base))

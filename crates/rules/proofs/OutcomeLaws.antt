@@ -1,0 +1,227 @@
+-- From an entry's outcome to the rules' items and back: what a passed check leaves to be done, when a run is quiet, and which
+-- events stand in the buffer. So a theorem about items can be said of the answer and the buffers.
+use mathlib.Core.Path.{_≡_, refl, ap, sym, subst, _∙_}
+use mathlib.Core.Bool.{Bool, true, false}
+use mathlib.Core.Logic.{_↔_}
+use mathlib.Core.List.{List, [], _∷_}
+use Prim.Native.Nat.{ℕ, zero, suc, _+_, _*_, _/_, _<_, _≤_}
+use native.Mathlib.Omega.{arith}
+use lib.ListN.{length, take, getD}
+use lib.Dec.{ltb}
+use borrow.Author.Tests.{ltb-false, le-ltb}
+use Rattle.token.specs.declared.check.Checked.{Checked}
+use Rattle.token.specs.Tokens.{Tok, allTokens}
+use Rattle.token.specs.Check.{checked}
+use Rattle.token.specs.CheckLaws.{refused-number}
+use Rattle.rules.specs.Out.{Item, event, eventAfter, report, stop}
+use Rattle.rules.specs.Entries.{Entry, parse}
+use Rattle.rules.specs.Words.{eventsOf, errorsOf, Halt, ended, refusedLevel, haltOf}
+use Rattle.rules.specs.Answer.{eventSize, errorSize, Outcome, joined, filled, refusalBy, walked, outcomeBy, outcome}
+use Rattle.rules.specs.Quiet.{Quiet, QuietRun}
+use Rattle.rules.proofs.BufferLaws.{Sized, sizedNone, sizedEntry, joined-known, take-entries, word-in, filled-length}
+
+-- an event has four words, an error six
+pub events-sized : (all : List Tok) (is : List Item) → Sized eventSize (eventsOf all is)
+events-sized all [] = sizedNone
+events-sized all (event g a b ∷ is) = sizedEntry refl (events-sized all is)
+events-sized all (eventAfter g l ∷ is) = sizedEntry refl (events-sized all is)
+events-sized all (report m x c u ∷ is) = events-sized all is
+events-sized all (stop n ∷ is) = sizedNone
+
+pub errors-sized : (all : List Tok) (is : List Item) → Sized errorSize (errorsOf all is)
+errors-sized all [] = sizedNone
+errors-sized all (event g a b ∷ is) = errors-sized all is
+errors-sized all (eventAfter g l ∷ is) = errors-sized all is
+errors-sized all (report m x c u ∷ is) = sizedEntry refl (errors-sized all is)
+errors-sized all (stop n ∷ is) = sizedNone
+
+-- what is left to be done after a check that passed
+pub passed-outcome : (e : Entry) (s : List ℕ) (base : ℕ) (evs ers : List ℕ) → checked s base ≡ Checked.Passed
+    → outcome e s base evs ers ≡ walked (allTokens s base) (parse e (allTokens s base) .items) evs ers
+unfolding outcome
+passed-outcome e s base evs ers h = ap (λ (c : Checked). outcomeBy c e s base evs ers) h
+
+-- a quiet run of items: it goes to its end, reports nothing, and no event has an empty span
+pub quiet-ended : (is : List Item) → Quiet is → haltOf is ≡ ended
+quiet-ended [] q = refl
+quiet-ended (event g a b ∷ is) q = quiet-ended is (q .1)
+quiet-ended (eventAfter g l ∷ is) q = absurd q
+quiet-ended (report m x c u ∷ is) q = absurd q
+quiet-ended (stop n ∷ is) q = absurd q
+
+pub quiet-errorless : (all : List Tok) (is : List Item) → Quiet is → errorsOf all is ≡ []
+quiet-errorless all [] q = refl
+quiet-errorless all (event g a b ∷ is) q = quiet-errorless all is (q .1)
+quiet-errorless all (eventAfter g l ∷ is) q = absurd q
+quiet-errorless all (report m x c u ∷ is) q = absurd q
+quiet-errorless all (stop n ∷ is) q = absurd q
+
+-- word 2 of event i is its start, word 3 its end
+abbrev pub EmptyAt : List (List ℕ) → ℕ → Type 0
+EmptyAt ws i = getD (getD ws i []) 2 0 ≡ getD (getD ws i []) 3 0
+
+pub quiet-nonempty : (all : List Tok) (is : List Item) → Quiet is → (i : ℕ) → i < length (eventsOf all is) → EmptyAt (eventsOf all is) i → ⊥
+quiet-nonempty all [] q i h e = omega arith
+quiet-nonempty all (event g a b ∷ is) q zero h e = q .0 e
+quiet-nonempty all (event g a b ∷ is) q (suc i) h e = quiet-nonempty all is (q .1) i (omega arith) e
+quiet-nonempty all (eventAfter g l ∷ is) q i h e = absurd q
+quiet-nonempty all (report m x c u ∷ is) q i h e = absurd q
+quiet-nonempty all (stop n ∷ is) q i h e = absurd q
+
+-- and back
+abbrev IsEnded : Halt → Type 0
+IsEnded ended = Unit {0}
+IsEnded (refusedLevel n) = ⊥
+
+pub quiet-items : (all : List Tok) (is : List Item) → haltOf is ≡ ended → length (errorsOf all is) ≡ 0 → ((i : ℕ) → i < length (eventsOf all is) → EmptyAt (eventsOf all is) i → ⊥) → Quiet is
+quiet-items all [] t z h = tt
+quiet-items all (event g a b ∷ is) t z h = (λ e. h 0 (omega arith) e, quiet-items all is t z (λ i l e. h (suc i) (omega arith) e))
+quiet-items all (eventAfter g l ∷ is) t z h = h 0 (omega arith) refl
+quiet-items all (report m x c u ∷ is) t z h = omega arith
+quiet-items all (stop n ∷ is) t z h = subst IsEnded (sym t) tt
+
+-- no refusal: the walk went to its end, and both lists fit
+none-refused : (t : Halt) (shortEvents shortErrors : Bool) → refusalBy t shortEvents shortErrors ≡ 0 → (t ≡ ended) × (shortEvents ≡ false) × (shortErrors ≡ false)
+none-refused ended true b e = absurd (omega (arith, e))
+none-refused ended false true e = absurd (omega (arith, e))
+none-refused ended false false e = (refl, refl, refl)
+none-refused (refusedLevel n) a b e = absurd (omega (arith, e))
+
+module _ (all : List Tok) (is : List Item) (evs ers : List ℕ) where
+  -- a quiet run of the outcome: its events fit
+  pub quiet-fits : QuietRun (walked all is evs ers) → length (eventsOf all is) ≤ length evs / eventSize
+  unfolding walked
+  quiet-fits q = ltb-false _ _ (none-refused (haltOf is) _ _ (q .accepted) .1)
+
+  -- the words of event i, in the list and in the buffer
+  word-at : (i j : ℕ) → length (eventsOf all is) ≤ length evs / eventSize → i < length (eventsOf all is) → j < eventSize
+      → getD (filled eventSize (eventsOf all is) evs) (i * eventSize + j) 0 ≡ getD (getD (eventsOf all is) i []) j 0
+  word-at i j h l m = word-in evs i j 0 (events-sized all is) h l m
+
+  pub quiet-run-items : QuietRun (walked all is evs ers) → Quiet is
+  unfolding walked
+  quiet-run-items q =
+      let fits = quiet-fits q in
+      quiet-items all is (none-refused (haltOf is) _ _ (q .accepted) .0) (q .errorless)
+      (λ i l e. q .nonempty i l (word-at i 2 fits l (omega arith) ∙ e ∙ sym (word-at i 3 fits l (omega arith))))
+
+  pub quiet-items-run : Quiet is → length (eventsOf all is) ≤ length evs / eventSize → QuietRun (walked all is evs ers)
+  unfolding walked
+  quiet-items-run q h =
+      record {
+        accepted = simp (quiet-ended is q, quiet-errorless all is q, le-ltb _ _ h, le-ltb (length ers / errorSize) 0 (omega arith));
+        errorless = ap length (quiet-errorless all is q);
+        nonempty = λ i l e. quiet-nonempty all is q i l (sym (word-at i 2 h l (omega arith)) ∙ e ∙ word-at i 3 h l (omega arith));
+      }
+
+-- what a quiet run of an entry is, said of the check, the rules' items and the room for events
+pub record QuietOutcome (e : Entry) (s : List ℕ) (base : ℕ) (evs : List ℕ) : Type 0 where
+  pub passed : checked s base ≡ Checked.Passed
+  pub quiet : Quiet (parse e (allTokens s base) .items)
+  pub fits : length (eventsOf (allTokens s base) (parse e (allTokens s base) .items)) ≤ length evs / eventSize
+
+module _ (e : Entry) (s : List ℕ) (base : ℕ) (evs ers : List ℕ) where
+  -- refusals 1 to 5 are no quiet run
+  by-check : (c : Checked) → checked s base ≡ c → QuietRun (outcomeBy c e s base evs ers) → checked s base ≡ Checked.Passed
+  by-check Checked.Passed h q = h
+  by-check (Checked.Refused r i) h q = absurd (refused-number s base r i h (q .accepted))
+
+  pub quiet-passed : QuietRun (outcome e s base evs ers) → checked s base ≡ Checked.Passed
+  unfolding outcome
+  quiet-passed q = by-check (checked s base) refl q
+
+  -- nor are 6, 7 and 8: the items are quiet, with which the walk goes to its end and reports nothing, and the events fit
+  pub quiet-outcome : QuietRun (outcome e s base evs ers) → QuietOutcome e s base evs
+  quiet-outcome q =
+      let p = quiet-passed q in
+      let w = subst QuietRun (passed-outcome e s base evs ers p) q in
+      record { passed = p; quiet = quiet-run-items (allTokens s base) (parse e (allTokens s base) .items) evs ers w; fits = quiet-fits (allTokens s base) (parse e (allTokens s base) .items) evs ers w }
+
+  pub outcome-quiet : QuietOutcome e s base evs → QuietRun (outcome e s base evs ers)
+  outcome-quiet q =
+      subst QuietRun (sym (passed-outcome e s base evs ers (q .passed)))
+      (quiet-items-run (allTokens s base) (parse e (allTokens s base) .items) evs ers (q .quiet) (q .fits))
+
+  pub quiet-iff : QuietRun (outcome e s base evs ers) ↔ QuietOutcome e s base evs
+  quiet-iff = (quiet-outcome, outcome-quiet)
+
+  -- refusals 1 to 5: no entry is counted, and both buffers are as they were
+  pub refused-outcome : (r i : ℕ) → checked s base ≡ Checked.Refused r i
+      → outcome e s base evs ers ≡ record { answer = record { refusal = r; place = i; events = 0; errors = 0 }; events = evs; errors = ers }
+  unfolding outcome
+  refused-outcome r i h = ap (λ (c : Checked). outcomeBy c e s base evs ers) h
+
+  -- the answer and the buffers after a check that passed
+  pub counted-events : checked s base ≡ Checked.Passed → outcome e s base evs ers .answer .events ≡ length (eventsOf (allTokens s base) (parse e (allTokens s base) .items))
+  unfolding walked
+  counted-events p = ap (λ (o : Outcome). o .answer .events) (passed-outcome e s base evs ers p)
+
+  pub counted-errors : checked s base ≡ Checked.Passed → outcome e s base evs ers .answer .errors ≡ length (errorsOf (allTokens s base) (parse e (allTokens s base) .items))
+  unfolding walked
+  counted-errors p = ap (λ (o : Outcome). o .answer .errors) (passed-outcome e s base evs ers p)
+
+  pub events-written : checked s base ≡ Checked.Passed → outcome e s base evs ers .events ≡ filled eventSize (eventsOf (allTokens s base) (parse e (allTokens s base) .items)) evs
+  unfolding walked
+  events-written p = ap (λ (o : Outcome). o .events) (passed-outcome e s base evs ers p)
+
+  pub errors-written : checked s base ≡ Checked.Passed → outcome e s base evs ers .errors ≡ filled errorSize (errorsOf (allTokens s base) (parse e (allTokens s base) .items)) ers
+  unfolding walked
+  errors-written p = ap (λ (o : Outcome). o .errors) (passed-outcome e s base evs ers p)
+
+  -- both buffers keep their lengths
+  event-room-by : (c : Checked) → length (outcomeBy c e s base evs ers .events) ≡ length evs
+  unfolding walked
+  event-room-by Checked.Passed = filled-length evs (events-sized (allTokens s base) (parse e (allTokens s base) .items))
+  event-room-by (Checked.Refused r i) = refl
+
+  error-room-by : (c : Checked) → length (outcomeBy c e s base evs ers .errors) ≡ length ers
+  unfolding walked
+  error-room-by Checked.Passed = filled-length ers (errors-sized (allTokens s base) (parse e (allTokens s base) .items))
+  error-room-by (Checked.Refused r i) = refl
+
+  pub event-room : length (outcome e s base evs ers .events) ≡ length evs
+  unfolding outcome
+  event-room = event-room-by (checked s base)
+
+  pub error-room : length (outcome e s base evs ers .errors) ≡ length ers
+  unfolding outcome
+  error-room = error-room-by (checked s base)
+
+-- the events stand in the buffer, in order, from its first word on
+pub events-in-buffer : (all : List Tok) (is : List Item) (evs : List ℕ) → length (eventsOf all is) ≤ length evs / eventSize
+    → take (eventSize * length (eventsOf all is)) (filled eventSize (eventsOf all is) evs) ≡ joined (eventsOf all is)
+events-in-buffer all is evs h =
+    let turned : eventSize * length (eventsOf all is) ≡ length (eventsOf all is) * eventSize = omega arith in
+    rw turned (take-entries evs (events-sized all is) h)
+
+pub errors-in-buffer : (all : List Tok) (is : List Item) (ers : List ℕ) → length (errorsOf all is) ≤ length ers / errorSize
+    → take (errorSize * length (errorsOf all is)) (filled errorSize (errorsOf all is) ers) ≡ joined (errorsOf all is)
+errors-in-buffer all is ers h =
+    let turned : errorSize * length (errorsOf all is) ≡ length (errorsOf all is) * errorSize = omega arith in
+    rw turned (take-entries ers (errors-sized all is) h)
+
+-- and are known by their words
+pub events-known : (all us : List Tok) (is js : List Item) → joined (eventsOf all is) ≡ joined (eventsOf us js) → eventsOf all is ≡ eventsOf us js
+events-known all us is js e = joined-known (omega arith) (events-sized all is) (events-sized us js) e
+
+pub errors-known : (all us : List Tok) (is js : List Item) → joined (errorsOf all is) ≡ joined (errorsOf us js) → errorsOf all is ≡ errorsOf us js
+errors-known all us is js e = joined-known (omega arith) (errors-sized all is) (errors-sized us js) e
+
+-- the same of an outcome: the words of as many events as it counts
+abbrev pub eventWordsOf : Outcome → List ℕ
+eventWordsOf o = take (eventSize * o .answer .events) (o .events)
+
+pub events-read : (e : Entry) (s : List ℕ) (base : ℕ) (evs ers : List ℕ) → QuietRun (outcome e s base evs ers)
+    → eventWordsOf (outcome e s base evs ers) ≡ joined (eventsOf (allTokens s base) (parse e (allTokens s base) .items))
+unfolding walked
+events-read e s base evs ers q =
+    let o = quiet-outcome e s base evs ers q in
+    ap eventWordsOf (passed-outcome e s base evs ers (o .passed)) ∙ events-in-buffer (allTokens s base) (parse e (allTokens s base) .items) evs (o .fits)
+
+-- two quiet runs with the same words of events have the same events
+pub same-events : (e : Entry) (s t : List ℕ) (base to : ℕ) (evs ers evs′ ers′ : List ℕ) → QuietRun (outcome e s base evs ers) → QuietRun (outcome e t to evs′ ers′)
+    → eventWordsOf (outcome e s base evs ers) ≡ eventWordsOf (outcome e t to evs′ ers′)
+    → eventsOf (allTokens s base) (parse e (allTokens s base) .items) ≡ eventsOf (allTokens t to) (parse e (allTokens t to) .items)
+same-events e s t base to evs ers evs′ ers′ q r h =
+    events-known (allTokens s base) (allTokens t to) (parse e (allTokens s base) .items) (parse e (allTokens t to) .items)
+    (sym (events-read e s base evs ers q) ∙ h ∙ events-read e t to evs′ ers′ r)

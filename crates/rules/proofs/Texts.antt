@@ -1,0 +1,45 @@
+-- The texts of specs/Texts.antt are read by the rules as they are written there: by computation.
+use Prim.Native.Nat.{ℕ}
+use mathlib.Core.Path.{_≡_, refl}
+use mathlib.Core.List.{List, [], _∷_}
+use Rattle.token.specs.Kinds.{kindOf}
+use Rattle.token.specs.Records.{lengthAt, kindNumberAt}
+use Rattle.token.specs.Tokens.{tokensFrom, allTokens}
+use Rattle.token.specs.Check.{checkedFrom, checked}
+use Rattle.rules.specs.Turns.{turns}
+use Rattle.rules.specs.Nest.{onOpen}
+use Rattle.rules.specs.Words.{lookedUp}
+use Rattle.rules.specs.Entries.{documentEntry}
+use Rattle.rules.specs.Answer.{outcome, walked, filled}
+use Rattle.rules.specs.Texts.{texts, furtherTexts, asWritten, asRuled, writtenOutcomes, ruledOutcomes}
+
+-- the fourteen texts of document 01
+pub texts-as-read : asRuled texts ≡ asWritten texts
+unfolding texts turns onOpen lookedUp
+texts-as-read = refl
+
+pub further-texts-as-read : asRuled furtherTexts ≡ asWritten furtherTexts
+unfolding furtherTexts turns onOpen lookedUp
+further-texts-as-read = refl
+
+-- the same from record bytes: answer and both buffers, whatever word w these hold beforehand
+pub texts-in-buffers : (w : ℕ) → ruledOutcomes w texts ≡ writtenOutcomes w texts
+unfolding texts turns onOpen lookedUp kindOf lengthAt kindNumberAt tokensFrom allTokens checkedFrom checked outcome walked filled
+texts-in-buffers w = refl
+
+pub further-texts-in-buffers : (w : ℕ) → ruledOutcomes w furtherTexts ≡ writtenOutcomes w furtherTexts
+unfolding furtherTexts turns onOpen lookedUp kindOf lengthAt kindNumberAt tokensFrom allTokens checkedFrom checked outcome walked filled
+further-texts-in-buffers w = refl
+
+-- text 4 once more, each byte and each word written out
+pub text-four
+    : (w : ℕ) → outcome documentEntry
+    (1 ∷ 0 ∷ 0 ∷ 0 ∷ 4 ∷ 0 ∷ 1 ∷ 0 ∷ 0 ∷ 0 ∷ 4 ∷ 0 ∷ 1 ∷ 0 ∷ 0 ∷ 0 ∷ 15 ∷ 0 ∷ 1 ∷ 0 ∷ 0 ∷ 0 ∷ 5 ∷ 0 ∷ 1 ∷ 0 ∷ 0 ∷ 0 ∷ 10 ∷ 0 ∷ 0 ∷ 0 ∷ 0 ∷ 0 ∷ 16 ∷ 0 ∷ [])
+    0 (w ∷ w ∷ w ∷ w ∷ w ∷ w ∷ w ∷ w ∷ w ∷ w ∷ w ∷ w ∷ w ∷ w ∷ []) (w ∷ w ∷ w ∷ w ∷ w ∷ w ∷ w ∷ w ∷ [])
+    ≡ record {
+      answer = record { refusal = 0; place = 0; events = 3; errors = 1 };
+      events = 3 ∷ 0 ∷ 0 ∷ 2 ∷ 5 ∷ 0 ∷ 2 ∷ 3 ∷ 16 ∷ 0 ∷ 4 ∷ 5 ∷ w ∷ w ∷ [];
+      errors = 1 ∷ 2 ∷ 0 ∷ 4 ∷ 4 ∷ 4 ∷ w ∷ w ∷ [];
+    }
+unfolding turns onOpen lookedUp kindOf lengthAt kindNumberAt tokensFrom allTokens checkedFrom checked outcome walked filled
+text-four w = refl

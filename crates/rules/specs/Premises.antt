@@ -1,0 +1,150 @@
+-- Demand 3 in definitions: what is supposed of a token list, and what is said of the events of a quiet run. The first are properties of the
+-- list, the second of words in a buffer; only `documentRun` and `eventsLeft` have to do with a run. Assumes nothing.
+use Prim.Native.Nat.{ℕ, zero, suc, _≤_, _/_}
+use mathlib.Core.Path.{_≡_}
+use mathlib.Core.Bool.{cond}
+use mathlib.Core.List.{List, [], _∷_}
+use lib.ListN.{length, take, drop}
+use lib.Dec.{eqb}
+use Rattle.token.specs.declared.kind.Kind.{Kind}
+use Rattle.token.specs.declared.kind.Kind.the-variants.{Dot, Equals, Comma, LeftSquareBracket, RightSquareBracket, LeftCurlyBracket, RightCurlyBracket, Whitespace, Comment, Newline, LiteralString, BasicString, MlLiteralString, MlBasicString, Atom, Eof}
+use Rattle.token.specs.declared.check.Checked.{Checked}
+use Rattle.token.specs.Tokens.{Tok, tok, allTokens}
+use Rattle.token.specs.Check.{checked}
+use Rattle.rules.specs.Limits.{maxDepth}
+use Rattle.rules.specs.Entries.{documentEntry}
+use Rattle.rules.specs.Answer.{eventSize, Outcome, outcome}
+use Rattle.rules.specs.Grammar.{DotOrAtom, UnquotedRest, scalarEnds, dotOrAtom, whitespaceAtom}
+
+-- one Eof, and it is the last token
+pub data OneEofLast : List Tok → Type 0 where
+  onlyEof : {a b : ℕ} → OneEofLast (tok Eof a b ∷ [])
+  beforeEof : {k : Kind} {a b : ℕ} {ts : List Tok} → (k ≡ Eof → ⊥) → OneEofLast ts → OneEofLast (tok k a b ∷ ts)
+
+-- of two tokens that follow one another not both are Whitespace
+pub data NoAdjacentWhitespace : List Tok → Type 0 where
+  noToken : NoAdjacentWhitespace []
+  oneToken : {t : Tok} → NoAdjacentWhitespace (t ∷ [])
+  notBoth : {k l : Kind} {a b c d : ℕ} {ts : List Tok} → (k ≡ Whitespace → l ≡ Whitespace → ⊥) → NoAdjacentWhitespace (tok l c d ∷ ts) → NoAdjacentWhitespace (tok k a b ∷ tok l c d ∷ ts)
+
+-- what a kind is to the count of open brackets
+pub data Bracketing : Type 0 where
+  opening closing neither : Bracketing
+
+abbrev pub bracketing : Kind → Bracketing
+bracketing Dot = neither
+bracketing Equals = neither
+bracketing Comma = neither
+bracketing LeftSquareBracket = opening
+bracketing RightSquareBracket = closing
+bracketing LeftCurlyBracket = opening
+bracketing RightCurlyBracket = closing
+bracketing Whitespace = neither
+bracketing Comment = neither
+bracketing Newline = neither
+bracketing LiteralString = neither
+bracketing BasicString = neither
+bracketing MlLiteralString = neither
+bracketing MlBasicString = neither
+bracketing Atom = neither
+bracketing Eof = neither
+
+-- n more brackets may be open: an opening one takes one of them, a closing one gives one back
+abbrev pub remaining : Bracketing → ℕ → (ℕ → Type 0) → Type 0
+remaining opening zero rest = ⊥
+remaining opening (suc n) rest = rest n
+remaining closing n rest = rest (suc n)
+remaining neither n rest = rest n
+
+-- at no point of the list are there more than n opening brackets beyond the closing ones. It is a condition on the list alone. The brackets
+-- of headers count too. That is harmless: in a list that fits they are at most two, stand where nothing else is open, and are closed on
+-- their line, so with n at least 2 the condition says of such a list only that at most n arrays and inline tables are open at a time
+-- (`nesting-exact` in proofs/Demand.antt).
+abbrev pub NestedWithin : ℕ → List Tok → Type 0
+NestedWithin n [] = Unit {0}
+NestedWithin n (tok k a b ∷ ts) = remaining (bracketing k) n (λ m. NestedWithin m ts)
+
+-- the event buffer has room for as many events as there are tokens
+abbrev pub Roomy : List Tok → List ℕ → Type 0
+Roomy ts events = length ts ≤ length events / eventSize
+
+-- what is supposed of the tokens
+pub record Regular (ts : List Tok) : Type 0 where
+  pub ends : OneEofLast ts
+  pub apart : NoAdjacentWhitespace ts
+
+-- and, for a list that fits to be quiet, of the record bytes s, the base and the event buffer: that no refusal comes, which says nothing of
+-- the grammar. The check lets the list pass (refusals 1 to 5), and there is depth (6) and room (7); of errors there are none (8).
+pub record Ready (s : List ℕ) (base : ℕ) (events : List ℕ) : Type 0 where
+  pub passed : checked s base ≡ Checked.Passed
+  pub regular : Regular (allTokens s base)
+  pub shallow : NestedWithin maxDepth (allTokens s base)
+  pub roomy : Roomy (allTokens s base) events
+
+-- where the text ends, of which the tokens begin at p
+abbrev pub textEnd : ℕ → List Tok → ℕ
+textEnd p [] = p
+textEnd p (tok k a b ∷ ts) = textEnd b ts
+
+-- the first n events in a buffer, each four words: kind, encoding, start, end
+unfoldable pub eventsIn : ℕ → List ℕ → List (List ℕ)
+eventsIn zero buffer = []
+eventsIn (suc n) buffer = take eventSize buffer ∷ eventsIn n (drop eventSize buffer)
+
+-- a run of the document entry on the record bytes s, with the two buffers
+abbrev pub documentRun : List ℕ → ℕ → List ℕ → List ℕ → Outcome
+documentRun s base events errors = outcome documentEntry s base events errors
+
+-- the events that a run left in its buffer
+abbrev pub eventsLeft : Outcome → List (List ℕ)
+eventsLeft o = eventsIn (o .answer .events) (o .events)
+
+-- the events lie end to end from p to q: the first starts at p, each other where the one before it ends, and the last ends at q
+pub data EndToEnd : ℕ → List (List ℕ) → ℕ → Type 0 where
+  noEvent : {p : ℕ} → EndToEnd p [] p
+  anEvent : {kind encoding start end q : ℕ} {events : List (List ℕ)} → EndToEnd end events q → EndToEnd start ((kind ∷ encoding ∷ start ∷ end ∷ []) ∷ events) q
+
+-- what can be open: a table's header, an array table's header, an array, an inline table
+pub data OpenBracket : Type 0 where
+  openTable openArrayTable openArray openInlineTable : OpenBracket
+
+-- what an event does to the brackets that are open
+pub data Effect : Type 0 where
+  opens closes : OpenBracket → Effect
+  leaves : Effect
+
+-- by the number of the event's kind: 1 and 2, 3 and 4, 10 and 11, 12 and 13 open and close
+abbrev pub effectOf : ℕ → Effect
+effectOf kind =
+    cond (eqb kind 1) (opens openTable)
+    (cond (eqb kind 2) (closes openTable)
+    (cond (eqb kind 3) (opens openArrayTable)
+    (cond (eqb kind 4) (closes openArrayTable)
+    (cond (eqb kind 10) (opens openArray)
+    (cond (eqb kind 11) (closes openArray)
+    (cond (eqb kind 12) (opens openInlineTable)
+    (cond (eqb kind 13) (closes openInlineTable)
+    leaves)))))))
+
+-- the open brackets before and after an event, the last opened first: it is always the last opened that is closed
+pub data Changes : List OpenBracket → Effect → List OpenBracket → Type 0 where
+  opensOne : {o : OpenBracket} {before : List OpenBracket} → Changes before (opens o) (o ∷ before)
+  closesLast : {o : OpenBracket} {after : List OpenBracket} → Changes (o ∷ after) (closes o) after
+  leavesAll : {before : List OpenBracket} → Changes before leaves before
+
+-- the brackets open before and after events
+pub data Nests : List OpenBracket → List (List ℕ) → List OpenBracket → Type 0 where
+  nestsNone : {before : List OpenBracket} → Nests before [] before
+  nestsEvent : {kind encoding start end : ℕ} {events : List (List ℕ)} {before between after : List OpenBracket} → Changes before (effectOf kind) between → Nests between events after → Nests before ((kind ∷ encoding ∷ start ∷ end ∷ []) ∷ events) after
+
+-- where an unquoted scalar ends, of which the token before the given ones ends at b
+abbrev pub scalarEnd : {ts rest : List Tok} → ℕ → UnquotedRest ts rest → ℕ
+scalarEnd b scalarEnds = b
+scalarEnd b (dotOrAtom {b = d} k rest) = scalarEnd d rest
+scalarEnd b (whitespaceAtom {d = d} rest) = scalarEnd d rest
+
+-- the two lists are the same token for token, but that an unquoted scalar may be cut otherwise: it starts and ends at the same places
+pub data SameButForCuts : List Tok → List Tok → Type 0 where
+  bothEnd : SameButForCuts [] []
+  sameToken : {t : Tok} {ts us : List Tok} → SameButForCuts ts us → SameButForCuts (t ∷ ts) (t ∷ us)
+  sameScalar : {k l : Kind} {a b c : ℕ} {ts vs us ws : List Tok} → DotOrAtom k → DotOrAtom l → (r : UnquotedRest ts vs) (q : UnquotedRest us ws) → scalarEnd b r ≡ scalarEnd c q → SameButForCuts vs ws → SameButForCuts (tok k a b ∷ ts) (tok l a c ∷ us)

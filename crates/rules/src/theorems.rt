@@ -1,0 +1,62 @@
+// Theorems about the rules alone, each the contract of a function that does nothing.
+ghost use mathlib.Core.Path.{_≡_};
+ghost use mathlib.Core.Logic.{_↔_};
+ghost use mathlib.Core.List.{[]};
+ghost use Rattle.token.specs.Tokens.{allTokens};
+ghost use Rattle.rules.specs.Quiet.{QuietRun};
+ghost use Rattle.rules.specs.Grammar.{Fits};
+ghost use Rattle.rules.specs.Premises.{Regular, Ready, documentRun, textEnd, eventsLeft, EndToEnd, Nests, SameButForCuts};
+ghost use Rattle.rules.specs.Texts.{texts, furtherTexts, asRuled, asWritten, ruledOutcomes, writtenOutcomes};
+
+// The rules read each of document 01's fourteen texts as it was read by hand.
+pub fn texts_as_read()
+    ensures { λ _. ⌜ asRuled texts ≡ asWritten texts ⌝ }
+{}
+
+// From record bytes: the answer, and every word of both buffers, which all hold `word` beforehand.
+pub fn texts_in_buffers(word: u32)
+    ensures { λ _. ⌜ ruledOutcomes word texts ≡ writtenOutcomes word texts ⌝ }
+{}
+
+// Further texts, not of document 01, are read as the oracle reads them.
+pub fn further_texts_as_read()
+    ensures { λ _. ⌜ asRuled furtherTexts ≡ asWritten furtherTexts ⌝ }
+{}
+
+// A run of the document entry is quiet exactly when the token list fits the token grammar.
+pub fn quiet_exactly_when_fits(s: &[u8], base: u32, events: &[u32], errors: &[u32])
+    ensures { λ _. ⌜ (Ready (now (s .entry)) base (now (events .entry))
+        → (QuietRun (documentRun (now (s .entry)) base (now (events .entry)) (now (errors .entry))) ↔ Fits (allTokens (now (s .entry)) base))) ⌝ }
+{}
+
+// The events that a quiet run leaves in its buffer lie end to end, from the base to the end of the text.
+pub fn quiet_events_end_to_end(s: &[u8], base: u32, events: &[u32], errors: &[u32])
+    ensures { λ _. ⌜ (Regular (allTokens (now (s .entry)) base)
+        → QuietRun (documentRun (now (s .entry)) base (now (events .entry)) (now (errors .entry)))
+        → EndToEnd base (eventsLeft (documentRun (now (s .entry)) base (now (events .entry)) (now (errors .entry)))) (textEnd base (allTokens (now (s .entry)) base))) ⌝ }
+{}
+
+// Their brackets nest: none is open before the first event or after the last.
+pub fn quiet_brackets_nest(s: &[u8], base: u32, events: &[u32], errors: &[u32])
+    ensures { λ _. ⌜ (Regular (allTokens (now (s .entry)) base)
+        → QuietRun (documentRun (now (s .entry)) base (now (events .entry)) (now (errors .entry)))
+        → Nests [] (eventsLeft (documentRun (now (s .entry)) base (now (events .entry)) (now (errors .entry)))) []) ⌝ }
+{}
+
+// Two quiet runs from the same base that leave the same events, word for word, had the same tokens, but for how an unquoted scalar was cut.
+pub fn quiet_events_determine_tokens(
+    s: &[u8],
+    t: &[u8],
+    base: u32,
+    events: &[u32],
+    errors: &[u32],
+    other_events: &[u32],
+    other_errors: &[u32],
+)
+    ensures { λ _. ⌜ (Regular (allTokens (now (s .entry)) base)
+        → Regular (allTokens (now (t .entry)) base)
+        → QuietRun (documentRun (now (s .entry)) base (now (events .entry)) (now (errors .entry)))
+        → QuietRun (documentRun (now (t .entry)) base (now («other_events» .entry)) (now («other_errors» .entry)))
+        → eventsLeft (documentRun (now (s .entry)) base (now (events .entry)) (now (errors .entry))) ≡ eventsLeft (documentRun (now (t .entry)) base (now («other_events» .entry)) (now («other_errors» .entry)))
+        → SameButForCuts (allTokens (now (s .entry)) base) (allTokens (now (t .entry)) base)) ⌝ }
+{}
