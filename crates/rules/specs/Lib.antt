@@ -17,3 +17,8 @@ pub mod Entries
 pub mod Words
 pub mod Answer
 pub mod Quiet
+pub mod Costs
+pub mod LineCosts
+pub mod KeyCosts
+pub mod NestCosts
+pub mod Bounds
