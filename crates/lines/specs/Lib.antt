@@ -7,3 +7,4 @@ pub mod KeyWalks
 pub mod LookLaws
 pub mod ScalarWalks
 pub mod PourLaws
+pub mod AnswerLaws
