@@ -105,14 +105,14 @@ unfolding more
 counted es w h = rw (lt-ltb (length es) 4294967295 h) (sym (length-append es (w ∷ [])))
 
 -- the buffers and counts after the events es and the errors rs
-abbrev pub after : List ℕ → List ℕ → List (List ℕ) → List (List ℕ) → Halt → Bufs
-after evs ers es rs h = record { events = filled eventSize es evs; errors = filled errorSize rs ers; n = record { events = length es; errors = length rs }; halt = h }
+abbrev pub bufsAfter : List ℕ → List ℕ → List (List ℕ) → List (List ℕ) → Halt → Bufs
+bufsAfter evs ers es rs h = record { events = filled eventSize es evs; errors = filled errorSize rs ers; n = record { events = length es; errors = length rs }; halt = h }
 
 module _ (evs ers : List ℕ) (es rs : List (List ℕ)) where
-  one-event : (g : Event) (p : Span) → Sized eventSize es → length es < 4294967295 → withEvent g p (after evs ers es rs ended) ≡ after evs ers (es ++ (eventWords g p ∷ [])) rs ended
+  one-event : (g : Event) (p : Span) → Sized eventSize es → length es < 4294967295 → withEvent g p (bufsAfter evs ers es rs ended) ≡ bufsAfter evs ers (es ++ (eventWords g p ∷ [])) rs ended
   one-event g p z h = ap₂ (λ (x : List ℕ) (n : ℕ). record { events = x; errors = filled errorSize rs ers; n = record { events = n; errors = length rs }; halt = ended }) (put-event-more es evs _ _ _ _ z) (counted es (eventWords g p) h)
 
-  one-error : (m x : ℕ) (c u : Span) → Sized errorSize rs → length rs < 4294967295 → withError m x c u (after evs ers es rs ended) ≡ after evs ers es (rs ++ (errorWords m x c u ∷ [])) ended
+  one-error : (m x : ℕ) (c u : Span) → Sized errorSize rs → length rs < 4294967295 → withError m x c u (bufsAfter evs ers es rs ended) ≡ bufsAfter evs ers es (rs ++ (errorWords m x c u ∷ [])) ended
   one-error m x c u z h = ap₂ (λ (y : List ℕ) (n : ℕ). record { events = filled eventSize es evs; errors = y; n = record { events = length es; errors = n }; halt = ended }) (put-error-more rs ers _ _ _ _ _ _ z) (counted rs (errorWords m x c u) h)
 
 -- after a refusal nothing is poured
@@ -127,23 +127,23 @@ poured-none all (i ∷ is) o k e = ap (pour all is) (put-none (o .halt) k all i 
 -- the items after es and rs
 poured-from : (all : List Tok) (is : List Item) (evs ers : List ℕ) (es rs : List (List ℕ)) → Sized eventSize es → Sized errorSize rs
     → length es + length (eventsOf all is) ≤ 4294967295 → length rs + length (errorsOf all is) ≤ 4294967295
-    → pour all is (after evs ers es rs ended) ≡ after evs ers (es ++ eventsOf all is) (rs ++ errorsOf all is) (haltOf is)
+    → pour all is (bufsAfter evs ers es rs ended) ≡ bufsAfter evs ers (es ++ eventsOf all is) (rs ++ errorsOf all is) (haltOf is)
 unfolding put
-poured-from all [] evs ers es rs y z h k = ap₂ (λ (a b : List (List ℕ)). after evs ers a b ended) (sym (append-nil es)) (sym (append-nil rs))
+poured-from all [] evs ers es rs y z h k = ap₂ (λ (a b : List (List ℕ)). bufsAfter evs ers a b ended) (sym (append-nil es)) (sym (append-nil rs))
 poured-from all (event g a b ∷ is) evs ers es rs y z h k =
     ap (pour all is) (one-event evs ers es rs g (record { start = a; end = b }) y (omega arith))
     ∙ poured-from all is evs ers (es ++ (eventWords g (record { start = a; end = b }) ∷ [])) rs (sized-more eventSize es _ y refl) z (simp length-append (omega arith)) k
-    ∙ ap (λ (x : List (List ℕ)). after evs ers x (rs ++ errorsOf all is) (haltOf is)) (append-snoc es (eventWords g (record { start = a; end = b })) (eventsOf all is))
+    ∙ ap (λ (x : List (List ℕ)). bufsAfter evs ers x (rs ++ errorsOf all is) (haltOf is)) (append-snoc es (eventWords g (record { start = a; end = b })) (eventsOf all is))
 poured-from all (eventAfter g l ∷ is) evs ers es rs y z h k =
     ap (pour all is) (one-event evs ers es rs g (spanAfter (lookedUp all l)) y (omega arith))
     ∙ poured-from all is evs ers (es ++ (eventWords g (spanAfter (lookedUp all l)) ∷ [])) rs (sized-more eventSize es _ y refl) z (simp length-append (omega arith)) k
-    ∙ ap (λ (x : List (List ℕ)). after evs ers x (rs ++ errorsOf all is) (haltOf is)) (append-snoc es (eventWords g (spanAfter (lookedUp all l))) (eventsOf all is))
+    ∙ ap (λ (x : List (List ℕ)). bufsAfter evs ers x (rs ++ errorsOf all is) (haltOf is)) (append-snoc es (eventWords g (spanAfter (lookedUp all l))) (eventsOf all is))
 poured-from all (report m x c u ∷ is) evs ers es rs y z h k =
     ap (pour all is) (one-error evs ers es rs m x (spanOf all c) (spanOf all u) z (omega arith))
     ∙ poured-from all is evs ers es (rs ++ (errorWords m x (spanOf all c) (spanOf all u) ∷ [])) y (sized-more errorSize rs _ z refl) h (simp length-append (omega arith))
-    ∙ ap (λ (w : List (List ℕ)). after evs ers (es ++ eventsOf all is) w (haltOf is)) (append-snoc rs (errorWords m x (spanOf all c) (spanOf all u)) (errorsOf all is))
+    ∙ ap (λ (w : List (List ℕ)). bufsAfter evs ers (es ++ eventsOf all is) w (haltOf is)) (append-snoc rs (errorWords m x (spanOf all c) (spanOf all u)) (errorsOf all is))
 poured-from all (stop n ∷ is) evs ers es rs y z h k =
-    poured-none all is (after evs ers es rs (refusedLevel n)) n refl ∙ ap₂ (λ (a b : List (List ℕ)). after evs ers a b (refusedLevel n)) (sym (append-nil es)) (sym (append-nil rs))
+    poured-none all is (bufsAfter evs ers es rs (refusedLevel n)) n refl ∙ ap₂ (λ (a b : List (List ℕ)). bufsAfter evs ers a b (refusedLevel n)) (sym (append-nil es)) (sym (append-nil rs))
 
 filled-none : (size : ℕ) (l : List ℕ) → filled size [] l ≡ l
 unfolding filled
@@ -151,7 +151,7 @@ filled-none size l = ap (λ (x : List (List ℕ)). written x l) (take-nil (lengt
 
 -- all items of a run, onto fresh counts
 pub poured : (all : List Tok) (is : List Item) (evs ers : List ℕ) → length (eventsOf all is) ≤ 4294967295 → length (errorsOf all is) ≤ 4294967295
-    → pour all is (bufs evs ers (record { events = 0; errors = 0 })) ≡ after evs ers (eventsOf all is) (errorsOf all is) (haltOf is)
+    → pour all is (bufs evs ers (record { events = 0; errors = 0 })) ≡ bufsAfter evs ers (eventsOf all is) (errorsOf all is) (haltOf is)
 unfolding bufs
 poured all is evs ers h k =
     ap₂ (λ (x y : List ℕ). pour all is (record { events = x; errors = y; n = record { events = 0; errors = 0 }; halt = ended })) (sym (filled-none eventSize evs)) (sym (filled-none errorSize ers))
