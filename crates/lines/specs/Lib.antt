@@ -6,3 +6,5 @@ pub mod LineEnd
 pub mod KeyWalks
 pub mod LookLaws
 pub mod ScalarWalks
+pub mod PourLaws
+pub mod AnswerLaws

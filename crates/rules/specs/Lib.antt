@@ -21,3 +21,8 @@ pub mod TextWords
 pub mod Texts
 pub mod Grammar
 pub mod Premises
+pub mod Costs
+pub mod LineCosts
+pub mod KeyCosts
+pub mod NestCosts
+pub mod Bounds
