@@ -1,0 +1,130 @@
+-- Arrays and inline tables that open one another: a loop of turns, for any rule of a turn. Assumes nothing.
+use mathlib.Core.Path.{_≡_, refl, ap, sym, subst, _∙_}
+use mathlib.Core.Bool.{true, false, false≢true}
+use mathlib.Core.List.{List, [], _∷_}
+use Prim.Native.Nat.{ℕ, zero, suc, _+_, _-_, _≤_}
+use native.Mathlib.Omega.{arith}
+use lib.ListN.{length}
+use Rattle.token.specs.Tokens.{Tok, allTokens, tokensAt, Good}
+use Rattle.token.specs.declared.cursor.Token.{Token}
+use Rattle.token.specs.declared.cursor.Cursor.{Cursor}
+use Rattle.rules.specs.declared.skipping.Bracket.{Bracket}
+use Rattle.rules.specs.declared.array.ArrayState.{ArrayState}
+use Rattle.rules.specs.declared.inline_table.State.{State}
+use Rattle.rules.specs.Out.{span, Item, Out, done, _▹_, _then_}
+use Rattle.rules.specs.Receiver as receiver
+use Rattle.rules.specs.Turns.{turns, looping}
+use Rattle.rules.specs.Array.{Nest, arrayTurn}
+use Rattle.rules.specs.InlineTable.{progress, inlineTableTurn}
+use Rattle.rules.specs.Nest.{onOpen}
+use Rattle.lines.specs.declared.emitting.Counts.{Counts}
+use Rattle.lines.specs.Pour.{Bufs, bufs, refused, put, pour}
+use Rattle.lines.specs.Walks.{End, run}
+use Rattle.lines.specs.WalkLaws.{then-on}
+use Rattle.lines.specs.TurnLaws.{Turns, onward, turn-same, fewer-left}
+use Rattle.nest.specs.declared.turn.Next.{Next}
+use Rattle.nest.specs.declared.nest.NestWalk.{NestWalk}
+use Rattle.nest.specs.Turning.{goOn, Further, Turned}
+use Rattle.nest.specs.Nested.{outOf, Nested}
+use Rattle.nest.specs.NestedLaws.{out-on, nested-on, nested-stop}
+
+further : (x : Next) (c d : Cursor) → Further x c d → c .at ≤ d .at
+further Next.Again c d h = omega arith
+further Next.Over c d h = h
+further (Next.OpenArray t) c d h = omega arith
+further (Next.OpenTable t) c d h = omega arith
+
+module _ {S : Type 0} (nest : Nest) (turn : Nest → (S → List Tok → Out) → S → List Tok → Out) (still : (f g : S → List Tok → Out) (w : S) → turn nest f w [] ≡ turn nest g w [])
+    {s : List ℕ} {start : Out} {o o₀ : Bufs} {cur cur₀ : Cursor} (w : S) (inv : Turns s (λ k. turns (turn nest) k w (tokensAt s cur)) start o o₀ cur cur₀)
+    {a b : List ℕ} {d : Cursor} {n : Counts} (w' : S) {x : Next} (t : Turned S s (λ nest loop. turn nest loop w (tokensAt s cur)) cur o a b d n w' x) where
+  abbrev All : List Tok
+  All = allTokens s (cur₀ .base)
+
+  abbrev Rest : List Tok → Out
+  Rest = onward (turn nest) still w inv w'
+
+  -- what is next gives what the loop gives from its start
+  turned : (y : Next) → x ≡ y → run All (goOn y nest (onward (turn nest) still w inv) w' (tokensAt s d)) (bufs a b n) ≡ run All start o₀
+  turned y e =
+      ap (λ (z : Next). run All (goOn z nest (onward (turn nest) still w inv) w' (tokensAt s d)) (bufs a b n)) (sym e)
+      ∙ (sym (t .is (cur₀ .base) (inv .base) nest (onward (turn nest) still w inv)) ∙ turn-same (turn nest) still w inv)
+
+  moved : (y : Next) → x ≡ y → Further y cur d
+  moved y e = subst (λ (z : Next). Further z cur d) e (t .on)
+
+  pub turn-moved : x ≡ Next.Again → cur .at + 1 ≤ d .at
+  turn-moved e = moved Next.Again e
+
+  -- another turn
+  pub turn-next : x ≡ Next.Again → Turns s (λ k. turns (turn nest) k w' (tokensAt s d)) start (bufs a b n) o₀ d cur₀
+  turn-next e =
+      record { fuel = inv .fuel - 1; enough = fewer-left (turn nest) still w inv d (moved Next.Again e) (t .good); same = turned Next.Again e; good = t .good; on = omega (arith, moved Next.Again e, inv .on); base = t .base ∙ inv .base }
+
+  -- the end
+  pub turn-over : x ≡ Next.Over → Nested s start cur₀ o₀ a b (record { cur = d; n = n; stopped = false })
+  unfolding run
+  turn-over e =
+      let q : run All (done (tokensAt s d)) (bufs a b n) ≡ run All start o₀ = turned Next.Over e in
+      record {
+        wrote = λ base p. subst (λ (y : ℕ). bufs a b n ≡ pour (allTokens s y) (start .items) o₀) p (ap (λ (z : End). z .out) q);
+        rest = λ f. ap (λ (z : End). z .rest) q;
+        good = t .good;
+        on = omega (arith, further x cur d (t .on), inv .on);
+        base = t .base ∙ inv .base;
+      }
+
+  -- a bracket was opened, and its walk was refused or not
+  module _ {a' b' : List ℕ} {v : NestWalk} (g : Out) (q : run All (g then Rest) (bufs a b n) ≡ run All start o₀) (h : cur .at + 1 ≤ d .at) (y : Nested s g d (bufs a b n) a' b' v) where
+    opened-again : v .stopped ≡ false → Turns s (λ k. turns (turn nest) k w' (tokensAt s (v .cur))) start (bufs a' b' (v .n)) o₀ (v .cur) cur₀
+    unfolding run
+    opened-again e =
+        let z : bufs a' b' (v .n) ≡ pour All (g .items) (bufs a b n) = out-on s a' b' (v .n) (v .cur) _ (v .stopped) e (y .wrote (cur₀ .base) (t .base ∙ inv .base)) in
+        let p : run All (g then Rest) (bufs a b n) ≡ run All (Rest (tokensAt s (v .cur))) (bufs a' b' (v .n)) = then-on All g Rest (bufs a b n) s a' b' (record { cur = v .cur; n = v .n }) (λ i. record { out = z i; rest = y .rest e i }) in
+        record { fuel = inv .fuel - 1; enough = fewer-left (turn nest) still w inv (v .cur) (omega (arith, h, y .on)) (y .good); same = sym p ∙ q; good = y .good; on = omega (arith, h, y .on, inv .on); base = y .base ∙ (t .base ∙ inv .base) }
+
+    opened-stop : v .stopped ≡ true → Nested s start cur₀ o₀ a' b' v
+    unfolding run
+    opened-stop e =
+        let z = nested-stop Rest y e in
+        record {
+          wrote = λ base p. subst (λ (u : ℕ). outOf (v .stopped) s a' b' (v .n) (v .cur) ≡ pour (allTokens s u) (start .items) o₀) p (z .wrote (cur₀ .base) (t .base ∙ inv .base) ∙ ap (λ (x : End). x .out) q);
+          rest = λ f. absurd (false≢true (sym f ∙ e));
+          good = y .good;
+          on = omega (arith, h, y .on, inv .on);
+          base = y .base ∙ (t .base ∙ inv .base);
+        }
+
+  pub array-moved : (u : Token) → x ≡ Next.OpenArray u → cur .at + 1 ≤ d .at
+  array-moved u e = moved (Next.OpenArray u) e
+
+  pub table-moved : (u : Token) → x ≡ Next.OpenTable u → cur .at + 1 ≤ d .at
+  table-moved u e = moved (Next.OpenTable u) e
+
+  module _ (u : Token) {a' b' : List ℕ} {v : NestWalk} where
+    pub array-again : x ≡ Next.OpenArray u → Nested s (nest Bracket.Square (u .start) (u .end) (tokensAt s d)) d (bufs a b n) a' b' v → v .stopped ≡ false → Turns s (λ k. turns (turn nest) k w' (tokensAt s (v .cur))) start (bufs a' b' (v .n)) o₀ (v .cur) cur₀
+    array-again e y f = opened-again (nest Bracket.Square (u .start) (u .end) (tokensAt s d)) (turned (Next.OpenArray u) e) (array-moved u e) y f
+
+    pub array-stop : x ≡ Next.OpenArray u → Nested s (nest Bracket.Square (u .start) (u .end) (tokensAt s d)) d (bufs a b n) a' b' v → v .stopped ≡ true → Nested s start cur₀ o₀ a' b' v
+    array-stop e y f = opened-stop (nest Bracket.Square (u .start) (u .end) (tokensAt s d)) (turned (Next.OpenArray u) e) (array-moved u e) y f
+
+    pub table-again : x ≡ Next.OpenTable u → Nested s (nest Bracket.Curly (u .start) (u .end) (tokensAt s d)) d (bufs a b n) a' b' v → v .stopped ≡ false → Turns s (λ k. turns (turn nest) k w' (tokensAt s (v .cur))) start (bufs a' b' (v .n)) o₀ (v .cur) cur₀
+    table-again e y f = opened-again (nest Bracket.Curly (u .start) (u .end) (tokensAt s d)) (turned (Next.OpenTable u) e) (table-moved u e) y f
+
+    pub table-stop : x ≡ Next.OpenTable u → Nested s (nest Bracket.Curly (u .start) (u .end) (tokensAt s d)) d (bufs a b n) a' b' v → v .stopped ≡ true → Nested s start cur₀ o₀ a' b' v
+    table-stop e y f = opened-stop (nest Bracket.Curly (u .start) (u .end) (tokensAt s d)) (turned (Next.OpenTable u) e) (table-moved u e) y f
+
+-- the rules' openings where a level is left, and where none is
+pub open-array : (levels a b : ℕ) (ts : List Tok) → (levels ≡ 0 → ⊥) → (receiver.arrayOpen a b ▹ looping (arrayTurn (span a b) (onOpen (levels - 1))) ArrayState.NeedsValue ts) ≡ onOpen levels Bracket.Square a b ts
+unfolding onOpen
+open-array zero a b ts h = absurd (h refl)
+open-array (suc levels) a b ts h = let e : suc levels - 1 ≡ levels = omega arith in rw e
+
+pub open-table : (levels a b : ℕ) (ts : List Tok) → (levels ≡ 0 → ⊥) → (receiver.inlineTableOpen a b ▹ looping (inlineTableTurn (span a b) (onOpen (levels - 1))) (progress State.NeedsKey true) ts) ≡ onOpen levels Bracket.Curly a b ts
+unfolding onOpen
+open-table zero a b ts h = absurd (h refl)
+open-table (suc levels) a b ts h = let e : suc levels - 1 ≡ levels = omega arith in rw e
+
+pub no-level : {s : List ℕ} (levels : ℕ) (bracket : Bracket) (x y : ℕ) (c : Cursor) (a b : List ℕ) (n : Counts) → levels ≡ 0 → Good s c → Nested s (onOpen levels bracket x y (tokensAt s c)) c (bufs a b n) a b (record { cur = c; n = n; stopped = true })
+unfolding onOpen put bufs refused
+no-level zero bracket x y c a b n e g = record { wrote = λ base q. refl; rest = λ f. absurd (false≢true (sym f)); good = g; on = omega arith; base = refl }
+no-level (suc levels) bracket x y c a b n e g = absurd (omega (arith, e))

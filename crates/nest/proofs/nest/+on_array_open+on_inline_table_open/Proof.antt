@@ -1,0 +1,929 @@
+-- The two loops that open one another, by the levels still allowed.
+-- Made by ./proofs from Proof.tmpl: change that.
+use mathlib.Core.Path.{_≡_, refl, sym, _∙_}
+use mathlib.Core.Bool.{true, false}
+use native.Mathlib.Omega.{arith}
+use Prim.Native.Nat.{ℕ, _<_, _-_}
+use lib.ListN.{length}
+use Rattle.token.specs.Records.{count}
+use Rattle.token.specs.Tokens.{tokensAt}
+use Rattle.rules.specs.declared.skipping.Bracket.{Bracket}
+use Rattle.rules.specs.Out.{span}
+use Rattle.rules.specs.Turns.{turns, looping}
+use Rattle.rules.specs.Array.{arrayTurn}
+use Rattle.rules.specs.InlineTable.{inlineTableTurn}
+use Rattle.rules.specs.Nest.{onOpen}
+use Rattle.lines.specs.Pour.{bufs}
+use Rattle.lines.specs.TurnLaws.{Turns, turns-begun}
+use Rattle.nest.specs.NestedLaws.{nested-item, nested-as}
+use Rattle.nest.proofs.NestLaws.{turn-moved, turn-next, turn-over, array-moved, table-moved, array-again, array-stop, table-again, table-stop, open-array, open-table, no-level}
+use borrow.Author.Needs.{needs}
+use borrow.Fn.Kinds.{In}
+use borrow.Fn.PlainCycle.{Measures, is, falls, and}
+use Rattle.nest.proofs.nest.on_array_open.Reads as on-array-open
+use Rattle.nest.proofs.nest.on_array_open.Kinds as on-array-open-kinds
+use Rattle.nest.proofs.nest.+on_array_open+on_inline_table_open.Lts-on_array_open as on-array-open-lts
+use Rattle.nest.proofs.nest.on_inline_table_open.Reads as on-inline-table-open
+use Rattle.nest.proofs.nest.on_inline_table_open.Kinds as on-inline-table-open-kinds
+use Rattle.nest.proofs.nest.+on_array_open+on_inline_table_open.Lts-on_inline_table_open as on-inline-table-open-lts
+use Rattle.lines.proofs.emitting.emit.Reads as emit-reads
+use Rattle.nest.proofs.array.array_turn.Reads as array-turn-reads
+use Rattle.nest.proofs.inline_table.inline_table_turn.Reads as inline-table-turn-reads
+use Rattle.nest.proofs.nest.+on_array_open+on_inline_table_open.{statement}
+use Rattle.nest.proofs.nest.+on_array_open+on_inline_table_open.Tie.{close}
+
+abbrev μ-on-array-open : Measures 3 on-array-open-kinds.ps ℕ
+μ-on-array-open κs a = a .1 .1 .1 .1 .0
+
+abbrev μ-on-inline-table-open : Measures 3 on-inline-table-open-kinds.ps ℕ
+μ-on-inline-table-open κs a = a .1 .1 .1 .1 .0
+
+abbrev on-array-open-at : ℕ → In 3 on-array-open-kinds.ps
+on-array-open-at t =
+    and 3 on-array-open-kinds.ps (is 3 on-array-open-kinds.ps μ-on-array-open t) on-array-open.Pre
+
+abbrev on-array-open-below : ℕ → In 3 on-array-open-kinds.ps
+on-array-open-below t =
+    and
+    3
+    on-array-open-kinds.ps
+    (falls 3 on-array-open-kinds.ps _<_ μ-on-array-open t)
+    on-array-open.Pre
+
+abbrev on-inline-table-open-at : ℕ → In 3 on-inline-table-open-kinds.ps
+on-inline-table-open-at t =
+    and
+    3
+    on-inline-table-open-kinds.ps
+    (is 3 on-inline-table-open-kinds.ps μ-on-inline-table-open t)
+    on-inline-table-open.Pre
+
+abbrev on-inline-table-open-below : ℕ → In 3 on-inline-table-open-kinds.ps
+on-inline-table-open-below t =
+    and
+    3
+    on-inline-table-open-kinds.ps
+    (falls 3 on-inline-table-open-kinds.ps _<_ μ-on-inline-table-open t)
+    on-inline-table-open.Pre
+
+abbrev on-array-open-Inv-loop : on-array-open-lts.InvT-loop
+on-array-open-Inv-loop s head levels events₀ errors₀ n₀ cur₀ state₀ events errors n cur state =
+    Turns s (λ k. turns (arrayTurn (span (head .start) (head .end)) (onOpen (levels - 1))) k state (tokensAt s cur)) (looping (arrayTurn (span (head .start) (head .end)) (onOpen (levels - 1))) state₀ (tokensAt s cur₀)) (bufs events errors n) (bufs events₀ errors₀ n₀) cur cur₀
+    × (length events ≡ length events₀) × (length errors ≡ length errors₀)
+
+abbrev on-array-open-μ-loop : on-array-open-lts.MeasureT-loop
+on-array-open-μ-loop s head levels events₀ errors₀ n₀ cur₀ state₀ events errors n cur state = count s - cur .at
+
+on-array-open-returns : (t : ℕ) → on-array-open-lts.Need-returns (
+  emit-reads.Asked,
+  emit-reads.Learnt,
+  array-turn-reads.Asked,
+  array-turn-reads.Learnt,
+  on-array-open-below t,
+  on-array-open.Post,
+  on-inline-table-open-below t,
+  on-inline-table-open.Post,
+) (on-array-open-at t) on-array-open.Post on-array-open-Inv-loop on-array-open-μ-loop
+on-array-open-returns t c = no-level ((c .before .before .before .before .args) .levels) Bracket.Square _ _ _ _ _ _ ((c .if1) .taken) ((c .before .before .before .before .pre) .1)
+
+on-array-open-emit-requires : (t : ℕ) → on-array-open-lts.Need-emit-requires (
+  emit-reads.Asked,
+  emit-reads.Learnt,
+  array-turn-reads.Asked,
+  array-turn-reads.Learnt,
+  on-array-open-below t,
+  on-array-open.Post,
+  on-inline-table-open-below t,
+  on-inline-table-open.Post,
+) (on-array-open-at t) on-array-open.Post on-array-open-Inv-loop on-array-open-μ-loop
+on-array-open-emit-requires t c κs = search needs
+
+on-array-open-loop-holds : (t : ℕ) → on-array-open-lts.Need-loop-holds (
+  emit-reads.Asked,
+  emit-reads.Learnt,
+  array-turn-reads.Asked,
+  array-turn-reads.Learnt,
+  on-array-open-below t,
+  on-array-open.Post,
+  on-inline-table-open-below t,
+  on-inline-table-open.Post,
+) (on-array-open-at t) on-array-open.Post on-array-open-Inv-loop on-array-open-μ-loop
+on-array-open-loop-holds t c = (turns-begun _ _ _ _ ((c .before .before .before .before .before .before .before .before .pre) .1), refl, refl)
+
+on-array-open-array-turn-requires : (t : ℕ) → on-array-open-lts.Need-array-turn-requires (
+  emit-reads.Asked,
+  emit-reads.Learnt,
+  array-turn-reads.Asked,
+  array-turn-reads.Learnt,
+  on-array-open-below t,
+  on-array-open.Post,
+  on-inline-table-open-below t,
+  on-inline-table-open.Post,
+) (on-array-open-at t) on-array-open.Post on-array-open-Inv-loop on-array-open-μ-loop
+on-array-open-array-turn-requires t c κs = ((c .before .before .loop) .inv .0) .good
+
+on-array-open-enum-told : (t : ℕ) → on-array-open-lts.Need-enum-told (
+  emit-reads.Asked,
+  emit-reads.Learnt,
+  array-turn-reads.Asked,
+  array-turn-reads.Learnt,
+  on-array-open-below t,
+  on-array-open.Post,
+  on-inline-table-open-below t,
+  on-inline-table-open.Post,
+) (on-array-open-at t) on-array-open.Post on-array-open-Inv-loop on-array-open-μ-loop
+on-array-open-enum-told t c = search needs
+
+on-array-open-loop-less : (t : ℕ) → on-array-open-lts.Need-loop-less (
+  emit-reads.Asked,
+  emit-reads.Learnt,
+  array-turn-reads.Asked,
+  array-turn-reads.Learnt,
+  on-array-open-below t,
+  on-array-open.Post,
+  on-inline-table-open-below t,
+  on-inline-table-open.Post,
+) (on-array-open-at t) on-array-open.Post on-array-open-Inv-loop on-array-open-μ-loop
+on-array-open-loop-less t c = omega (arith, turn-moved (onOpen ((c .before .before .before .before .before .before .before .before .before .before .before .before .before .before .before .before .before .before .before .before .args) .levels - 1)) (λ nest. arrayTurn (span ((c .before .before .before .before .before .before .before .before .before .before .before .before .before .before .before .before .before .before .before .before .args) .head .start) ((c .before .before .before .before .before .before .before .before .before .before .before .before .before .before .before .before .before .before .before .before .args) .head .end)) nest) (λ f g w. refl) ((c .before .before .before .before .before .before .before .before .before .before .before .loop) .state) ((c .before .before .before .before .before .before .before .before .before .before .before .loop) .inv .0) ((c .before .before .before .before .before .before .before .before .array-turn) .result .state) ((c .before .before .before .before .before .before .before .before .array-turn) .ensures) ((c .enum-told) .given .1), (c .before .before .before .before .before .before .before .before .array-turn) .ensures .good .low)
+
+on-array-open-loop-again : (t : ℕ) → on-array-open-lts.Need-loop-again (
+  emit-reads.Asked,
+  emit-reads.Learnt,
+  array-turn-reads.Asked,
+  array-turn-reads.Learnt,
+  on-array-open-below t,
+  on-array-open.Post,
+  on-inline-table-open-below t,
+  on-inline-table-open.Post,
+) (on-array-open-at t) on-array-open.Post on-array-open-Inv-loop on-array-open-μ-loop
+on-array-open-loop-again t c = (turn-next (onOpen ((c .before .before .before .before .before .before .before .before .before .before .before .before .before .before .before .before .before .before .before .before .args) .levels - 1)) (λ nest. arrayTurn (span ((c .before .before .before .before .before .before .before .before .before .before .before .before .before .before .before .before .before .before .before .before .args) .head .start) ((c .before .before .before .before .before .before .before .before .before .before .before .before .before .before .before .before .before .before .before .before .args) .head .end)) nest) (λ f g w. refl) ((c .before .before .before .before .before .before .before .before .before .before .before .loop) .state) ((c .before .before .before .before .before .before .before .before .before .before .before .loop) .inv .0) ((c .before .before .before .before .before .before .before .before .array-turn) .result .state) ((c .before .before .before .before .before .before .before .before .array-turn) .ensures) ((c .enum-told) .given .1), ((c .before .before .before .before .before .before .before .before .array-turn .kept .1 .1 .1 .1 .1 .0)) ∙ (c .before .before .before .before .before .before .before .before .before .before .before .loop) .inv .1, ((c .before .before .before .before .before .before .before .before .array-turn .kept .1 .1 .1 .1 .1 .1 .0)) ∙ (c .before .before .before .before .before .before .before .before .before .before .before .loop) .inv .2)
+
+on-array-open-enum-told-2 : (t : ℕ) → on-array-open-lts.Need-enum-told-2 (
+  emit-reads.Asked,
+  emit-reads.Learnt,
+  array-turn-reads.Asked,
+  array-turn-reads.Learnt,
+  on-array-open-below t,
+  on-array-open.Post,
+  on-inline-table-open-below t,
+  on-inline-table-open.Post,
+) (on-array-open-at t) on-array-open.Post on-array-open-Inv-loop on-array-open-μ-loop
+on-array-open-enum-told-2 t c = search needs
+
+on-array-open-same-length : (t : ℕ) → on-array-open-lts.Need-same-length (
+  emit-reads.Asked,
+  emit-reads.Learnt,
+  array-turn-reads.Asked,
+  array-turn-reads.Learnt,
+  on-array-open-below t,
+  on-array-open.Post,
+  on-inline-table-open-below t,
+  on-inline-table-open.Post,
+) (on-array-open-at t) on-array-open.Post on-array-open-Inv-loop on-array-open-μ-loop
+on-array-open-same-length t c = ((c .before .before .before .before .before .before .before .before .array-turn .kept .1 .1 .1 .1 .1 .0)) ∙ (c .before .before .before .before .before .before .before .before .before .before .before .loop) .inv .1 ∙ (c .before .before .before .before .before .before .before .before .before .before .before .before .before .before .emit) .kept .0
+
+on-array-open-same-length-2 : (t : ℕ) → on-array-open-lts.Need-same-length-2 (
+  emit-reads.Asked,
+  emit-reads.Learnt,
+  array-turn-reads.Asked,
+  array-turn-reads.Learnt,
+  on-array-open-below t,
+  on-array-open.Post,
+  on-inline-table-open-below t,
+  on-inline-table-open.Post,
+) (on-array-open-at t) on-array-open.Post on-array-open-Inv-loop on-array-open-μ-loop
+on-array-open-same-length-2 t c = ((c .before .before .before .before .before .before .before .before .array-turn .kept .1 .1 .1 .1 .1 .1 .0)) ∙ (c .before .before .before .before .before .before .before .before .before .before .before .loop) .inv .2
+
+on-array-open-returns-2 : (t : ℕ) → on-array-open-lts.Need-returns-2 (
+  emit-reads.Asked,
+  emit-reads.Learnt,
+  array-turn-reads.Asked,
+  array-turn-reads.Learnt,
+  on-array-open-below t,
+  on-array-open.Post,
+  on-inline-table-open-below t,
+  on-inline-table-open.Post,
+) (on-array-open-at t) on-array-open.Post on-array-open-Inv-loop on-array-open-μ-loop
+on-array-open-returns-2 t c = nested-as (open-array ((c .before .before .before .before .before .before .before .before .before .before .before .before .before .before .before .before .before .before .before .before .args) .levels) _ _ _ ((c .before .before .before .before .before .before .before .before .before .before .before .before .before .before .before .before .if1) .left)) (nested-item _ _ (λ all. (c .before .before .before .before .before .before .before .before .before .before .before .before .before .before .emit) .ensures all _) (turn-over (onOpen ((c .before .before .before .before .before .before .before .before .before .before .before .before .before .before .before .before .before .before .before .before .args) .levels - 1)) (λ nest. arrayTurn (span ((c .before .before .before .before .before .before .before .before .before .before .before .before .before .before .before .before .before .before .before .before .args) .head .start) ((c .before .before .before .before .before .before .before .before .before .before .before .before .before .before .before .before .before .before .before .before .args) .head .end)) nest) (λ f g w. refl) ((c .before .before .before .before .before .before .before .before .before .before .before .loop) .state) ((c .before .before .before .before .before .before .before .before .before .before .before .loop) .inv .0) ((c .before .before .before .before .before .before .before .before .array-turn) .result .state) ((c .before .before .before .before .before .before .before .before .array-turn) .ensures) ((c .enum-told2) .given .1)))
+
+on-array-open-enum-known-x : (t : ℕ) → on-array-open-lts.Need-enum-known-x (
+  emit-reads.Asked,
+  emit-reads.Learnt,
+  array-turn-reads.Asked,
+  array-turn-reads.Learnt,
+  on-array-open-below t,
+  on-array-open.Post,
+  on-inline-table-open-below t,
+  on-inline-table-open.Post,
+) (on-array-open-at t) on-array-open.Post on-array-open-Inv-loop on-array-open-μ-loop
+on-array-open-enum-known-x t c = search needs
+
+on-array-open-sub-on-array-open : (t : ℕ) → on-array-open-lts.Need-sub-on-array-open (
+  emit-reads.Asked,
+  emit-reads.Learnt,
+  array-turn-reads.Asked,
+  array-turn-reads.Learnt,
+  on-array-open-below t,
+  on-array-open.Post,
+  on-inline-table-open-below t,
+  on-inline-table-open.Post,
+) (on-array-open-at t) on-array-open.Post on-array-open-Inv-loop on-array-open-μ-loop
+on-array-open-sub-on-array-open t c = omega (arith, (c .before .before .before .before .before .before .before .before .before .before .before .before .before .before .before .before .before .if1) .left)
+
+on-array-open-on-array-open-requires : (t : ℕ) → on-array-open-lts.Need-on-array-open-requires (
+  emit-reads.Asked,
+  emit-reads.Learnt,
+  array-turn-reads.Asked,
+  array-turn-reads.Learnt,
+  on-array-open-below t,
+  on-array-open.Post,
+  on-inline-table-open-below t,
+  on-inline-table-open.Post,
+) (on-array-open-at t) on-array-open.Post on-array-open-Inv-loop on-array-open-μ-loop
+on-array-open-on-array-open-requires t c κs = (omega (arith, (c .before .before .before .before .before .before .before .before .before .before .before .before .before .before .before .before .before .before .before .if1) .left, (c .before .before .before .before .before .before .before .before .before .before .before .before .before .before .before .before .before .before .before .before .before .before .before .pre) .0), (c .before .before .before .before .before .before .before .before .before .before .before .array-turn) .ensures .good)
+
+on-array-open-same-length-3 : (t : ℕ) → on-array-open-lts.Need-same-length-3 (
+  emit-reads.Asked,
+  emit-reads.Learnt,
+  array-turn-reads.Asked,
+  array-turn-reads.Learnt,
+  on-array-open-below t,
+  on-array-open.Post,
+  on-inline-table-open-below t,
+  on-inline-table-open.Post,
+) (on-array-open-at t) on-array-open.Post on-array-open-Inv-loop on-array-open-μ-loop
+on-array-open-same-length-3 t c = ((c .before .before .before .before .before .on-array-open .kept .1 .1 .1 .1 .1 .0) ∙ (c .before .before .before .before .before .before .before .before .before .before .before .before .before .before .before .before .before .array-turn .kept .1 .1 .1 .1 .1 .0)) ∙ (c .before .before .before .before .before .before .before .before .before .before .before .before .before .before .before .before .before .before .before .before .loop) .inv .1 ∙ (c .before .before .before .before .before .before .before .before .before .before .before .before .before .before .before .before .before .before .before .before .before .before .before .emit) .kept .0
+
+on-array-open-same-length-4 : (t : ℕ) → on-array-open-lts.Need-same-length-4 (
+  emit-reads.Asked,
+  emit-reads.Learnt,
+  array-turn-reads.Asked,
+  array-turn-reads.Learnt,
+  on-array-open-below t,
+  on-array-open.Post,
+  on-inline-table-open-below t,
+  on-inline-table-open.Post,
+) (on-array-open-at t) on-array-open.Post on-array-open-Inv-loop on-array-open-μ-loop
+on-array-open-same-length-4 t c = ((c .before .before .before .before .before .on-array-open .kept .1 .1 .1 .1 .1 .1 .0) ∙ (c .before .before .before .before .before .before .before .before .before .before .before .before .before .before .before .before .before .array-turn .kept .1 .1 .1 .1 .1 .1 .0)) ∙ (c .before .before .before .before .before .before .before .before .before .before .before .before .before .before .before .before .before .before .before .before .loop) .inv .2
+
+on-array-open-returns-3 : (t : ℕ) → on-array-open-lts.Need-returns-3 (
+  emit-reads.Asked,
+  emit-reads.Learnt,
+  array-turn-reads.Asked,
+  array-turn-reads.Learnt,
+  on-array-open-below t,
+  on-array-open.Post,
+  on-inline-table-open-below t,
+  on-inline-table-open.Post,
+) (on-array-open-at t) on-array-open.Post on-array-open-Inv-loop on-array-open-μ-loop
+on-array-open-returns-3 t c = nested-as (open-array ((c .before .before .before .before .before .before .before .before .before .before .before .before .before .before .before .before .before .before .before .before .before .before .before .before .before .before .before .before .before .args) .levels) _ _ _ ((c .before .before .before .before .before .before .before .before .before .before .before .before .before .before .before .before .before .before .before .before .before .before .before .before .before .if1) .left)) (nested-item _ _ (λ all. (c .before .before .before .before .before .before .before .before .before .before .before .before .before .before .before .before .before .before .before .before .before .before .before .emit) .ensures all _) (array-stop (onOpen ((c .before .before .before .before .before .before .before .before .before .before .before .before .before .before .before .before .before .before .before .before .before .before .before .before .before .before .before .before .before .args) .levels - 1)) (λ nest. arrayTurn (span ((c .before .before .before .before .before .before .before .before .before .before .before .before .before .before .before .before .before .before .before .before .before .before .before .before .before .before .before .before .before .args) .head .start) ((c .before .before .before .before .before .before .before .before .before .before .before .before .before .before .before .before .before .before .before .before .before .before .before .before .before .before .before .before .before .args) .head .end)) nest) (λ f g w. refl) ((c .before .before .before .before .before .before .before .before .before .before .before .before .before .before .before .before .before .before .before .before .loop) .state) ((c .before .before .before .before .before .before .before .before .before .before .before .before .before .before .before .before .before .before .before .before .loop) .inv .0) ((c .before .before .before .before .before .before .before .before .before .before .before .before .before .before .before .before .before .array-turn) .result .state) ((c .before .before .before .before .before .before .before .before .before .before .before .before .before .before .before .before .before .array-turn) .ensures) _ ((c .before .before .before .before .before .before .before .before .before .x) .given .1) ((c .before .before .before .before .before .on-array-open) .ensures) ((c .if2) .taken)))
+
+on-array-open-loop-less-2 : (t : ℕ) → on-array-open-lts.Need-loop-less-2 (
+  emit-reads.Asked,
+  emit-reads.Learnt,
+  array-turn-reads.Asked,
+  array-turn-reads.Learnt,
+  on-array-open-below t,
+  on-array-open.Post,
+  on-inline-table-open-below t,
+  on-inline-table-open.Post,
+) (on-array-open-at t) on-array-open.Post on-array-open-Inv-loop on-array-open-μ-loop
+on-array-open-loop-less-2 t c = omega (arith, array-moved (onOpen ((c .before .before .before .before .before .before .before .before .before .before .before .before .before .before .before .before .before .before .before .before .before .before .before .before .before .before .before .before .before .before .before .args) .levels - 1)) (λ nest. arrayTurn (span ((c .before .before .before .before .before .before .before .before .before .before .before .before .before .before .before .before .before .before .before .before .before .before .before .before .before .before .before .before .before .before .before .args) .head .start) ((c .before .before .before .before .before .before .before .before .before .before .before .before .before .before .before .before .before .before .before .before .before .before .before .before .before .before .before .before .before .before .before .args) .head .end)) nest) (λ f g w. refl) ((c .before .before .before .before .before .before .before .before .before .before .before .before .before .before .before .before .before .before .before .before .before .before .loop) .state) ((c .before .before .before .before .before .before .before .before .before .before .before .before .before .before .before .before .before .before .before .before .before .before .loop) .inv .0) ((c .before .before .before .before .before .before .before .before .before .before .before .before .before .before .before .before .before .before .before .array-turn) .result .state) ((c .before .before .before .before .before .before .before .before .before .before .before .before .before .before .before .before .before .before .before .array-turn) .ensures) _ ((c .before .before .before .before .before .before .before .before .before .before .before .x) .given .1), (c .before .before .before .before .before .before .before .on-array-open) .ensures .on, (c .before .before .before .before .before .before .before .on-array-open) .ensures .good .low)
+
+on-array-open-loop-again-2 : (t : ℕ) → on-array-open-lts.Need-loop-again-2 (
+  emit-reads.Asked,
+  emit-reads.Learnt,
+  array-turn-reads.Asked,
+  array-turn-reads.Learnt,
+  on-array-open-below t,
+  on-array-open.Post,
+  on-inline-table-open-below t,
+  on-inline-table-open.Post,
+) (on-array-open-at t) on-array-open.Post on-array-open-Inv-loop on-array-open-μ-loop
+on-array-open-loop-again-2 t c = (array-again (onOpen ((c .before .before .before .before .before .before .before .before .before .before .before .before .before .before .before .before .before .before .before .before .before .before .before .before .before .before .before .before .before .before .before .args) .levels - 1)) (λ nest. arrayTurn (span ((c .before .before .before .before .before .before .before .before .before .before .before .before .before .before .before .before .before .before .before .before .before .before .before .before .before .before .before .before .before .before .before .args) .head .start) ((c .before .before .before .before .before .before .before .before .before .before .before .before .before .before .before .before .before .before .before .before .before .before .before .before .before .before .before .before .before .before .before .args) .head .end)) nest) (λ f g w. refl) ((c .before .before .before .before .before .before .before .before .before .before .before .before .before .before .before .before .before .before .before .before .before .before .loop) .state) ((c .before .before .before .before .before .before .before .before .before .before .before .before .before .before .before .before .before .before .before .before .before .before .loop) .inv .0) ((c .before .before .before .before .before .before .before .before .before .before .before .before .before .before .before .before .before .before .before .array-turn) .result .state) ((c .before .before .before .before .before .before .before .before .before .before .before .before .before .before .before .before .before .before .before .array-turn) .ensures) _ ((c .before .before .before .before .before .before .before .before .before .before .before .x) .given .1) ((c .before .before .before .before .before .before .before .on-array-open) .ensures) ((c .before .before .if2) .left), ((c .before .before .before .before .before .before .before .on-array-open .kept .1 .1 .1 .1 .1 .0) ∙ (c .before .before .before .before .before .before .before .before .before .before .before .before .before .before .before .before .before .before .before .array-turn .kept .1 .1 .1 .1 .1 .0)) ∙ (c .before .before .before .before .before .before .before .before .before .before .before .before .before .before .before .before .before .before .before .before .before .before .loop) .inv .1, ((c .before .before .before .before .before .before .before .on-array-open .kept .1 .1 .1 .1 .1 .1 .0) ∙ (c .before .before .before .before .before .before .before .before .before .before .before .before .before .before .before .before .before .before .before .array-turn .kept .1 .1 .1 .1 .1 .1 .0)) ∙ (c .before .before .before .before .before .before .before .before .before .before .before .before .before .before .before .before .before .before .before .before .before .before .loop) .inv .2)
+
+on-array-open-enum-known-x-2 : (t : ℕ) → on-array-open-lts.Need-enum-known-x-2 (
+  emit-reads.Asked,
+  emit-reads.Learnt,
+  array-turn-reads.Asked,
+  array-turn-reads.Learnt,
+  on-array-open-below t,
+  on-array-open.Post,
+  on-inline-table-open-below t,
+  on-inline-table-open.Post,
+) (on-array-open-at t) on-array-open.Post on-array-open-Inv-loop on-array-open-μ-loop
+on-array-open-enum-known-x-2 t c = search needs
+
+on-array-open-sub-on-inline-table-open : (t : ℕ) → on-array-open-lts.Need-sub-on-inline-table-open (
+  emit-reads.Asked,
+  emit-reads.Learnt,
+  array-turn-reads.Asked,
+  array-turn-reads.Learnt,
+  on-array-open-below t,
+  on-array-open.Post,
+  on-inline-table-open-below t,
+  on-inline-table-open.Post,
+) (on-array-open-at t) on-array-open.Post on-array-open-Inv-loop on-array-open-μ-loop
+on-array-open-sub-on-inline-table-open t c = omega (arith, (c .before .before .before .before .before .before .before .before .before .before .before .before .before .before .before .before .before .if1) .left)
+
+on-array-open-on-inline-table-open-requires :
+    (t : ℕ) → on-array-open-lts.Need-on-inline-table-open-requires (
+      emit-reads.Asked,
+      emit-reads.Learnt,
+      array-turn-reads.Asked,
+      array-turn-reads.Learnt,
+      on-array-open-below t,
+      on-array-open.Post,
+      on-inline-table-open-below t,
+      on-inline-table-open.Post,
+    ) (on-array-open-at t) on-array-open.Post on-array-open-Inv-loop on-array-open-μ-loop
+on-array-open-on-inline-table-open-requires t c κs = (omega (arith, (c .before .before .before .before .before .before .before .before .before .before .before .before .before .before .before .before .before .before .before .if1) .left, (c .before .before .before .before .before .before .before .before .before .before .before .before .before .before .before .before .before .before .before .before .before .before .before .pre) .0), (c .before .before .before .before .before .before .before .before .before .before .before .array-turn) .ensures .good)
+
+on-array-open-same-length-5 : (t : ℕ) → on-array-open-lts.Need-same-length-5 (
+  emit-reads.Asked,
+  emit-reads.Learnt,
+  array-turn-reads.Asked,
+  array-turn-reads.Learnt,
+  on-array-open-below t,
+  on-array-open.Post,
+  on-inline-table-open-below t,
+  on-inline-table-open.Post,
+) (on-array-open-at t) on-array-open.Post on-array-open-Inv-loop on-array-open-μ-loop
+on-array-open-same-length-5 t c = ((c .before .before .before .before .before .on-inline-table-open .kept .1 .1 .1 .1 .1 .0) ∙ (c .before .before .before .before .before .before .before .before .before .before .before .before .before .before .before .before .before .array-turn .kept .1 .1 .1 .1 .1 .0)) ∙ (c .before .before .before .before .before .before .before .before .before .before .before .before .before .before .before .before .before .before .before .before .loop) .inv .1 ∙ (c .before .before .before .before .before .before .before .before .before .before .before .before .before .before .before .before .before .before .before .before .before .before .before .emit) .kept .0
+
+on-array-open-same-length-6 : (t : ℕ) → on-array-open-lts.Need-same-length-6 (
+  emit-reads.Asked,
+  emit-reads.Learnt,
+  array-turn-reads.Asked,
+  array-turn-reads.Learnt,
+  on-array-open-below t,
+  on-array-open.Post,
+  on-inline-table-open-below t,
+  on-inline-table-open.Post,
+) (on-array-open-at t) on-array-open.Post on-array-open-Inv-loop on-array-open-μ-loop
+on-array-open-same-length-6 t c = ((c .before .before .before .before .before .on-inline-table-open .kept .1 .1 .1 .1 .1 .1 .0) ∙ (c .before .before .before .before .before .before .before .before .before .before .before .before .before .before .before .before .before .array-turn .kept .1 .1 .1 .1 .1 .1 .0)) ∙ (c .before .before .before .before .before .before .before .before .before .before .before .before .before .before .before .before .before .before .before .before .loop) .inv .2
+
+on-array-open-returns-4 : (t : ℕ) → on-array-open-lts.Need-returns-4 (
+  emit-reads.Asked,
+  emit-reads.Learnt,
+  array-turn-reads.Asked,
+  array-turn-reads.Learnt,
+  on-array-open-below t,
+  on-array-open.Post,
+  on-inline-table-open-below t,
+  on-inline-table-open.Post,
+) (on-array-open-at t) on-array-open.Post on-array-open-Inv-loop on-array-open-μ-loop
+on-array-open-returns-4 t c = nested-as (open-array ((c .before .before .before .before .before .before .before .before .before .before .before .before .before .before .before .before .before .before .before .before .before .before .before .before .before .before .before .before .before .args) .levels) _ _ _ ((c .before .before .before .before .before .before .before .before .before .before .before .before .before .before .before .before .before .before .before .before .before .before .before .before .before .if1) .left)) (nested-item _ _ (λ all. (c .before .before .before .before .before .before .before .before .before .before .before .before .before .before .before .before .before .before .before .before .before .before .before .emit) .ensures all _) (table-stop (onOpen ((c .before .before .before .before .before .before .before .before .before .before .before .before .before .before .before .before .before .before .before .before .before .before .before .before .before .before .before .before .before .args) .levels - 1)) (λ nest. arrayTurn (span ((c .before .before .before .before .before .before .before .before .before .before .before .before .before .before .before .before .before .before .before .before .before .before .before .before .before .before .before .before .before .args) .head .start) ((c .before .before .before .before .before .before .before .before .before .before .before .before .before .before .before .before .before .before .before .before .before .before .before .before .before .before .before .before .before .args) .head .end)) nest) (λ f g w. refl) ((c .before .before .before .before .before .before .before .before .before .before .before .before .before .before .before .before .before .before .before .before .loop) .state) ((c .before .before .before .before .before .before .before .before .before .before .before .before .before .before .before .before .before .before .before .before .loop) .inv .0) ((c .before .before .before .before .before .before .before .before .before .before .before .before .before .before .before .before .before .array-turn) .result .state) ((c .before .before .before .before .before .before .before .before .before .before .before .before .before .before .before .before .before .array-turn) .ensures) _ ((c .before .before .before .before .before .before .before .before .before .x2) .given .1) ((c .before .before .before .before .before .on-inline-table-open) .ensures) ((c .if3) .taken)))
+
+on-array-open-loop-less-3 : (t : ℕ) → on-array-open-lts.Need-loop-less-3 (
+  emit-reads.Asked,
+  emit-reads.Learnt,
+  array-turn-reads.Asked,
+  array-turn-reads.Learnt,
+  on-array-open-below t,
+  on-array-open.Post,
+  on-inline-table-open-below t,
+  on-inline-table-open.Post,
+) (on-array-open-at t) on-array-open.Post on-array-open-Inv-loop on-array-open-μ-loop
+on-array-open-loop-less-3 t c = omega (arith, table-moved (onOpen ((c .before .before .before .before .before .before .before .before .before .before .before .before .before .before .before .before .before .before .before .before .before .before .before .before .before .before .before .before .before .before .before .args) .levels - 1)) (λ nest. arrayTurn (span ((c .before .before .before .before .before .before .before .before .before .before .before .before .before .before .before .before .before .before .before .before .before .before .before .before .before .before .before .before .before .before .before .args) .head .start) ((c .before .before .before .before .before .before .before .before .before .before .before .before .before .before .before .before .before .before .before .before .before .before .before .before .before .before .before .before .before .before .before .args) .head .end)) nest) (λ f g w. refl) ((c .before .before .before .before .before .before .before .before .before .before .before .before .before .before .before .before .before .before .before .before .before .before .loop) .state) ((c .before .before .before .before .before .before .before .before .before .before .before .before .before .before .before .before .before .before .before .before .before .before .loop) .inv .0) ((c .before .before .before .before .before .before .before .before .before .before .before .before .before .before .before .before .before .before .before .array-turn) .result .state) ((c .before .before .before .before .before .before .before .before .before .before .before .before .before .before .before .before .before .before .before .array-turn) .ensures) _ ((c .before .before .before .before .before .before .before .before .before .before .before .x2) .given .1), (c .before .before .before .before .before .before .before .on-inline-table-open) .ensures .on, (c .before .before .before .before .before .before .before .on-inline-table-open) .ensures .good .low)
+
+on-array-open-loop-again-3 : (t : ℕ) → on-array-open-lts.Need-loop-again-3 (
+  emit-reads.Asked,
+  emit-reads.Learnt,
+  array-turn-reads.Asked,
+  array-turn-reads.Learnt,
+  on-array-open-below t,
+  on-array-open.Post,
+  on-inline-table-open-below t,
+  on-inline-table-open.Post,
+) (on-array-open-at t) on-array-open.Post on-array-open-Inv-loop on-array-open-μ-loop
+on-array-open-loop-again-3 t c = (table-again (onOpen ((c .before .before .before .before .before .before .before .before .before .before .before .before .before .before .before .before .before .before .before .before .before .before .before .before .before .before .before .before .before .before .before .args) .levels - 1)) (λ nest. arrayTurn (span ((c .before .before .before .before .before .before .before .before .before .before .before .before .before .before .before .before .before .before .before .before .before .before .before .before .before .before .before .before .before .before .before .args) .head .start) ((c .before .before .before .before .before .before .before .before .before .before .before .before .before .before .before .before .before .before .before .before .before .before .before .before .before .before .before .before .before .before .before .args) .head .end)) nest) (λ f g w. refl) ((c .before .before .before .before .before .before .before .before .before .before .before .before .before .before .before .before .before .before .before .before .before .before .loop) .state) ((c .before .before .before .before .before .before .before .before .before .before .before .before .before .before .before .before .before .before .before .before .before .before .loop) .inv .0) ((c .before .before .before .before .before .before .before .before .before .before .before .before .before .before .before .before .before .before .before .array-turn) .result .state) ((c .before .before .before .before .before .before .before .before .before .before .before .before .before .before .before .before .before .before .before .array-turn) .ensures) _ ((c .before .before .before .before .before .before .before .before .before .before .before .x2) .given .1) ((c .before .before .before .before .before .before .before .on-inline-table-open) .ensures) ((c .before .before .if3) .left), ((c .before .before .before .before .before .before .before .on-inline-table-open .kept .1 .1 .1 .1 .1 .0) ∙ (c .before .before .before .before .before .before .before .before .before .before .before .before .before .before .before .before .before .before .before .array-turn .kept .1 .1 .1 .1 .1 .0)) ∙ (c .before .before .before .before .before .before .before .before .before .before .before .before .before .before .before .before .before .before .before .before .before .before .loop) .inv .1, ((c .before .before .before .before .before .before .before .on-inline-table-open .kept .1 .1 .1 .1 .1 .1 .0) ∙ (c .before .before .before .before .before .before .before .before .before .before .before .before .before .before .before .before .before .before .before .array-turn .kept .1 .1 .1 .1 .1 .1 .0)) ∙ (c .before .before .before .before .before .before .before .before .before .before .before .before .before .before .before .before .before .before .before .before .before .before .loop) .inv .2)
+
+abbrev on-inline-table-open-Inv-loop : on-inline-table-open-lts.InvT-loop
+on-inline-table-open-Inv-loop s head levels events₀ errors₀ n₀ cur₀ p₀ events errors n cur p =
+    Turns s (λ k. turns (inlineTableTurn (span (head .start) (head .end)) (onOpen (levels - 1))) k p (tokensAt s cur)) (looping (inlineTableTurn (span (head .start) (head .end)) (onOpen (levels - 1))) p₀ (tokensAt s cur₀)) (bufs events errors n) (bufs events₀ errors₀ n₀) cur cur₀
+    × (length events ≡ length events₀) × (length errors ≡ length errors₀)
+
+abbrev on-inline-table-open-μ-loop : on-inline-table-open-lts.MeasureT-loop
+on-inline-table-open-μ-loop s head levels events₀ errors₀ n₀ cur₀ p₀ events errors n cur p = count s - cur .at
+
+on-inline-table-open-returns : (t : ℕ) → on-inline-table-open-lts.Need-returns (
+  emit-reads.Asked,
+  emit-reads.Learnt,
+  inline-table-turn-reads.Asked,
+  inline-table-turn-reads.Learnt,
+  on-array-open-below t,
+  on-array-open.Post,
+  on-inline-table-open-below t,
+  on-inline-table-open.Post,
+)
+    (on-inline-table-open-at t)
+    on-inline-table-open.Post
+    on-inline-table-open-Inv-loop
+    on-inline-table-open-μ-loop
+on-inline-table-open-returns t c = no-level ((c .before .before .before .before .args) .levels) Bracket.Curly _ _ _ _ _ _ ((c .if1) .taken) ((c .before .before .before .before .pre) .1)
+
+on-inline-table-open-emit-requires : (t : ℕ) → on-inline-table-open-lts.Need-emit-requires (
+  emit-reads.Asked,
+  emit-reads.Learnt,
+  inline-table-turn-reads.Asked,
+  inline-table-turn-reads.Learnt,
+  on-array-open-below t,
+  on-array-open.Post,
+  on-inline-table-open-below t,
+  on-inline-table-open.Post,
+)
+    (on-inline-table-open-at t)
+    on-inline-table-open.Post
+    on-inline-table-open-Inv-loop
+    on-inline-table-open-μ-loop
+on-inline-table-open-emit-requires t c κs = search needs
+
+on-inline-table-open-loop-holds : (t : ℕ) → on-inline-table-open-lts.Need-loop-holds (
+  emit-reads.Asked,
+  emit-reads.Learnt,
+  inline-table-turn-reads.Asked,
+  inline-table-turn-reads.Learnt,
+  on-array-open-below t,
+  on-array-open.Post,
+  on-inline-table-open-below t,
+  on-inline-table-open.Post,
+)
+    (on-inline-table-open-at t)
+    on-inline-table-open.Post
+    on-inline-table-open-Inv-loop
+    on-inline-table-open-μ-loop
+on-inline-table-open-loop-holds t c = (turns-begun _ _ _ _ ((c .before .before .before .before .before .before .before .before .pre) .1), refl, refl)
+
+on-inline-table-open-inline-table-turn-requires :
+    (t : ℕ) → on-inline-table-open-lts.Need-inline-table-turn-requires (
+      emit-reads.Asked,
+      emit-reads.Learnt,
+      inline-table-turn-reads.Asked,
+      inline-table-turn-reads.Learnt,
+      on-array-open-below t,
+      on-array-open.Post,
+      on-inline-table-open-below t,
+      on-inline-table-open.Post,
+    )
+    (on-inline-table-open-at t)
+    on-inline-table-open.Post
+    on-inline-table-open-Inv-loop
+    on-inline-table-open-μ-loop
+on-inline-table-open-inline-table-turn-requires t c κs = ((c .before .before .loop) .inv .0) .good
+
+on-inline-table-open-enum-told : (t : ℕ) → on-inline-table-open-lts.Need-enum-told (
+  emit-reads.Asked,
+  emit-reads.Learnt,
+  inline-table-turn-reads.Asked,
+  inline-table-turn-reads.Learnt,
+  on-array-open-below t,
+  on-array-open.Post,
+  on-inline-table-open-below t,
+  on-inline-table-open.Post,
+)
+    (on-inline-table-open-at t)
+    on-inline-table-open.Post
+    on-inline-table-open-Inv-loop
+    on-inline-table-open-μ-loop
+on-inline-table-open-enum-told t c = search needs
+
+on-inline-table-open-loop-less : (t : ℕ) → on-inline-table-open-lts.Need-loop-less (
+  emit-reads.Asked,
+  emit-reads.Learnt,
+  inline-table-turn-reads.Asked,
+  inline-table-turn-reads.Learnt,
+  on-array-open-below t,
+  on-array-open.Post,
+  on-inline-table-open-below t,
+  on-inline-table-open.Post,
+)
+    (on-inline-table-open-at t)
+    on-inline-table-open.Post
+    on-inline-table-open-Inv-loop
+    on-inline-table-open-μ-loop
+on-inline-table-open-loop-less t c = omega (arith, turn-moved (onOpen ((c .before .before .before .before .before .before .before .before .before .before .before .before .before .before .before .before .before .before .before .before .before .args) .levels - 1)) (λ nest. inlineTableTurn (span ((c .before .before .before .before .before .before .before .before .before .before .before .before .before .before .before .before .before .before .before .before .before .args) .head .start) ((c .before .before .before .before .before .before .before .before .before .before .before .before .before .before .before .before .before .before .before .before .before .args) .head .end)) nest) (λ f g w. refl) ((c .before .before .before .before .before .before .before .before .before .before .before .before .loop) .p) ((c .before .before .before .before .before .before .before .before .before .before .before .before .loop) .inv .0) ((c .before .before .before .before .before .before .before .before .before .inline-table-turn) .result .progress) ((c .before .before .before .before .before .before .before .before .before .inline-table-turn) .ensures) ((c .enum-told) .given .1), (c .before .before .before .before .before .before .before .before .before .inline-table-turn) .ensures .good .low)
+
+on-inline-table-open-loop-again : (t : ℕ) → on-inline-table-open-lts.Need-loop-again (
+  emit-reads.Asked,
+  emit-reads.Learnt,
+  inline-table-turn-reads.Asked,
+  inline-table-turn-reads.Learnt,
+  on-array-open-below t,
+  on-array-open.Post,
+  on-inline-table-open-below t,
+  on-inline-table-open.Post,
+)
+    (on-inline-table-open-at t)
+    on-inline-table-open.Post
+    on-inline-table-open-Inv-loop
+    on-inline-table-open-μ-loop
+on-inline-table-open-loop-again t c = (turn-next (onOpen ((c .before .before .before .before .before .before .before .before .before .before .before .before .before .before .before .before .before .before .before .before .before .args) .levels - 1)) (λ nest. inlineTableTurn (span ((c .before .before .before .before .before .before .before .before .before .before .before .before .before .before .before .before .before .before .before .before .before .args) .head .start) ((c .before .before .before .before .before .before .before .before .before .before .before .before .before .before .before .before .before .before .before .before .before .args) .head .end)) nest) (λ f g w. refl) ((c .before .before .before .before .before .before .before .before .before .before .before .before .loop) .p) ((c .before .before .before .before .before .before .before .before .before .before .before .before .loop) .inv .0) ((c .before .before .before .before .before .before .before .before .before .inline-table-turn) .result .progress) ((c .before .before .before .before .before .before .before .before .before .inline-table-turn) .ensures) ((c .enum-told) .given .1), ((c .before .before .before .before .before .before .before .before .before .inline-table-turn .kept .1 .1 .1 .1 .1 .0)) ∙ (c .before .before .before .before .before .before .before .before .before .before .before .before .loop) .inv .1, ((c .before .before .before .before .before .before .before .before .before .inline-table-turn .kept .1 .1 .1 .1 .1 .1 .0)) ∙ (c .before .before .before .before .before .before .before .before .before .before .before .before .loop) .inv .2)
+
+on-inline-table-open-enum-told-2 : (t : ℕ) → on-inline-table-open-lts.Need-enum-told-2 (
+  emit-reads.Asked,
+  emit-reads.Learnt,
+  inline-table-turn-reads.Asked,
+  inline-table-turn-reads.Learnt,
+  on-array-open-below t,
+  on-array-open.Post,
+  on-inline-table-open-below t,
+  on-inline-table-open.Post,
+)
+    (on-inline-table-open-at t)
+    on-inline-table-open.Post
+    on-inline-table-open-Inv-loop
+    on-inline-table-open-μ-loop
+on-inline-table-open-enum-told-2 t c = search needs
+
+on-inline-table-open-same-length : (t : ℕ) → on-inline-table-open-lts.Need-same-length (
+  emit-reads.Asked,
+  emit-reads.Learnt,
+  inline-table-turn-reads.Asked,
+  inline-table-turn-reads.Learnt,
+  on-array-open-below t,
+  on-array-open.Post,
+  on-inline-table-open-below t,
+  on-inline-table-open.Post,
+)
+    (on-inline-table-open-at t)
+    on-inline-table-open.Post
+    on-inline-table-open-Inv-loop
+    on-inline-table-open-μ-loop
+on-inline-table-open-same-length t c = ((c .before .before .before .before .before .before .before .before .before .inline-table-turn .kept .1 .1 .1 .1 .1 .0)) ∙ (c .before .before .before .before .before .before .before .before .before .before .before .before .loop) .inv .1 ∙ (c .before .before .before .before .before .before .before .before .before .before .before .before .before .before .before .emit) .kept .0
+
+on-inline-table-open-same-length-2 : (t : ℕ) → on-inline-table-open-lts.Need-same-length-2 (
+  emit-reads.Asked,
+  emit-reads.Learnt,
+  inline-table-turn-reads.Asked,
+  inline-table-turn-reads.Learnt,
+  on-array-open-below t,
+  on-array-open.Post,
+  on-inline-table-open-below t,
+  on-inline-table-open.Post,
+)
+    (on-inline-table-open-at t)
+    on-inline-table-open.Post
+    on-inline-table-open-Inv-loop
+    on-inline-table-open-μ-loop
+on-inline-table-open-same-length-2 t c = ((c .before .before .before .before .before .before .before .before .before .inline-table-turn .kept .1 .1 .1 .1 .1 .1 .0)) ∙ (c .before .before .before .before .before .before .before .before .before .before .before .before .loop) .inv .2
+
+on-inline-table-open-returns-2 : (t : ℕ) → on-inline-table-open-lts.Need-returns-2 (
+  emit-reads.Asked,
+  emit-reads.Learnt,
+  inline-table-turn-reads.Asked,
+  inline-table-turn-reads.Learnt,
+  on-array-open-below t,
+  on-array-open.Post,
+  on-inline-table-open-below t,
+  on-inline-table-open.Post,
+)
+    (on-inline-table-open-at t)
+    on-inline-table-open.Post
+    on-inline-table-open-Inv-loop
+    on-inline-table-open-μ-loop
+on-inline-table-open-returns-2 t c = nested-as (open-table ((c .before .before .before .before .before .before .before .before .before .before .before .before .before .before .before .before .before .before .before .before .before .args) .levels) _ _ _ ((c .before .before .before .before .before .before .before .before .before .before .before .before .before .before .before .before .before .if1) .left)) (nested-item _ _ (λ all. (c .before .before .before .before .before .before .before .before .before .before .before .before .before .before .before .emit) .ensures all _) (turn-over (onOpen ((c .before .before .before .before .before .before .before .before .before .before .before .before .before .before .before .before .before .before .before .before .before .args) .levels - 1)) (λ nest. inlineTableTurn (span ((c .before .before .before .before .before .before .before .before .before .before .before .before .before .before .before .before .before .before .before .before .before .args) .head .start) ((c .before .before .before .before .before .before .before .before .before .before .before .before .before .before .before .before .before .before .before .before .before .args) .head .end)) nest) (λ f g w. refl) ((c .before .before .before .before .before .before .before .before .before .before .before .before .loop) .p) ((c .before .before .before .before .before .before .before .before .before .before .before .before .loop) .inv .0) ((c .before .before .before .before .before .before .before .before .before .inline-table-turn) .result .progress) ((c .before .before .before .before .before .before .before .before .before .inline-table-turn) .ensures) ((c .enum-told2) .given .1)))
+
+on-inline-table-open-enum-known-x : (t : ℕ) → on-inline-table-open-lts.Need-enum-known-x (
+  emit-reads.Asked,
+  emit-reads.Learnt,
+  inline-table-turn-reads.Asked,
+  inline-table-turn-reads.Learnt,
+  on-array-open-below t,
+  on-array-open.Post,
+  on-inline-table-open-below t,
+  on-inline-table-open.Post,
+)
+    (on-inline-table-open-at t)
+    on-inline-table-open.Post
+    on-inline-table-open-Inv-loop
+    on-inline-table-open-μ-loop
+on-inline-table-open-enum-known-x t c = search needs
+
+on-inline-table-open-sub-on-array-open : (t : ℕ) → on-inline-table-open-lts.Need-sub-on-array-open (
+  emit-reads.Asked,
+  emit-reads.Learnt,
+  inline-table-turn-reads.Asked,
+  inline-table-turn-reads.Learnt,
+  on-array-open-below t,
+  on-array-open.Post,
+  on-inline-table-open-below t,
+  on-inline-table-open.Post,
+)
+    (on-inline-table-open-at t)
+    on-inline-table-open.Post
+    on-inline-table-open-Inv-loop
+    on-inline-table-open-μ-loop
+on-inline-table-open-sub-on-array-open t c = omega (arith, (c .before .before .before .before .before .before .before .before .before .before .before .before .before .before .before .before .before .before .if1) .left)
+
+on-inline-table-open-on-array-open-requires :
+    (t : ℕ) → on-inline-table-open-lts.Need-on-array-open-requires (
+      emit-reads.Asked,
+      emit-reads.Learnt,
+      inline-table-turn-reads.Asked,
+      inline-table-turn-reads.Learnt,
+      on-array-open-below t,
+      on-array-open.Post,
+      on-inline-table-open-below t,
+      on-inline-table-open.Post,
+    )
+    (on-inline-table-open-at t)
+    on-inline-table-open.Post
+    on-inline-table-open-Inv-loop
+    on-inline-table-open-μ-loop
+on-inline-table-open-on-array-open-requires t c κs = (omega (arith, (c .before .before .before .before .before .before .before .before .before .before .before .before .before .before .before .before .before .before .before .before .if1) .left, (c .before .before .before .before .before .before .before .before .before .before .before .before .before .before .before .before .before .before .before .before .before .before .before .before .pre) .0), (c .before .before .before .before .before .before .before .before .before .before .before .before .inline-table-turn) .ensures .good)
+
+on-inline-table-open-same-length-3 : (t : ℕ) → on-inline-table-open-lts.Need-same-length-3 (
+  emit-reads.Asked,
+  emit-reads.Learnt,
+  inline-table-turn-reads.Asked,
+  inline-table-turn-reads.Learnt,
+  on-array-open-below t,
+  on-array-open.Post,
+  on-inline-table-open-below t,
+  on-inline-table-open.Post,
+)
+    (on-inline-table-open-at t)
+    on-inline-table-open.Post
+    on-inline-table-open-Inv-loop
+    on-inline-table-open-μ-loop
+on-inline-table-open-same-length-3 t c = ((c .before .before .before .before .before .on-array-open .kept .1 .1 .1 .1 .1 .0) ∙ (c .before .before .before .before .before .before .before .before .before .before .before .before .before .before .before .before .before .before .inline-table-turn .kept .1 .1 .1 .1 .1 .0)) ∙ (c .before .before .before .before .before .before .before .before .before .before .before .before .before .before .before .before .before .before .before .before .before .loop) .inv .1 ∙ (c .before .before .before .before .before .before .before .before .before .before .before .before .before .before .before .before .before .before .before .before .before .before .before .before .emit) .kept .0
+
+on-inline-table-open-same-length-4 : (t : ℕ) → on-inline-table-open-lts.Need-same-length-4 (
+  emit-reads.Asked,
+  emit-reads.Learnt,
+  inline-table-turn-reads.Asked,
+  inline-table-turn-reads.Learnt,
+  on-array-open-below t,
+  on-array-open.Post,
+  on-inline-table-open-below t,
+  on-inline-table-open.Post,
+)
+    (on-inline-table-open-at t)
+    on-inline-table-open.Post
+    on-inline-table-open-Inv-loop
+    on-inline-table-open-μ-loop
+on-inline-table-open-same-length-4 t c = ((c .before .before .before .before .before .on-array-open .kept .1 .1 .1 .1 .1 .1 .0) ∙ (c .before .before .before .before .before .before .before .before .before .before .before .before .before .before .before .before .before .before .inline-table-turn .kept .1 .1 .1 .1 .1 .1 .0)) ∙ (c .before .before .before .before .before .before .before .before .before .before .before .before .before .before .before .before .before .before .before .before .before .loop) .inv .2
+
+on-inline-table-open-returns-3 : (t : ℕ) → on-inline-table-open-lts.Need-returns-3 (
+  emit-reads.Asked,
+  emit-reads.Learnt,
+  inline-table-turn-reads.Asked,
+  inline-table-turn-reads.Learnt,
+  on-array-open-below t,
+  on-array-open.Post,
+  on-inline-table-open-below t,
+  on-inline-table-open.Post,
+)
+    (on-inline-table-open-at t)
+    on-inline-table-open.Post
+    on-inline-table-open-Inv-loop
+    on-inline-table-open-μ-loop
+on-inline-table-open-returns-3 t c = nested-as (open-table ((c .before .before .before .before .before .before .before .before .before .before .before .before .before .before .before .before .before .before .before .before .before .before .before .before .before .before .before .before .before .before .args) .levels) _ _ _ ((c .before .before .before .before .before .before .before .before .before .before .before .before .before .before .before .before .before .before .before .before .before .before .before .before .before .before .if1) .left)) (nested-item _ _ (λ all. (c .before .before .before .before .before .before .before .before .before .before .before .before .before .before .before .before .before .before .before .before .before .before .before .before .emit) .ensures all _) (array-stop (onOpen ((c .before .before .before .before .before .before .before .before .before .before .before .before .before .before .before .before .before .before .before .before .before .before .before .before .before .before .before .before .before .before .args) .levels - 1)) (λ nest. inlineTableTurn (span ((c .before .before .before .before .before .before .before .before .before .before .before .before .before .before .before .before .before .before .before .before .before .before .before .before .before .before .before .before .before .before .args) .head .start) ((c .before .before .before .before .before .before .before .before .before .before .before .before .before .before .before .before .before .before .before .before .before .before .before .before .before .before .before .before .before .before .args) .head .end)) nest) (λ f g w. refl) ((c .before .before .before .before .before .before .before .before .before .before .before .before .before .before .before .before .before .before .before .before .before .loop) .p) ((c .before .before .before .before .before .before .before .before .before .before .before .before .before .before .before .before .before .before .before .before .before .loop) .inv .0) ((c .before .before .before .before .before .before .before .before .before .before .before .before .before .before .before .before .before .before .inline-table-turn) .result .progress) ((c .before .before .before .before .before .before .before .before .before .before .before .before .before .before .before .before .before .before .inline-table-turn) .ensures) _ ((c .before .before .before .before .before .before .before .before .before .x) .given .1) ((c .before .before .before .before .before .on-array-open) .ensures) ((c .if2) .taken)))
+
+on-inline-table-open-loop-less-2 : (t : ℕ) → on-inline-table-open-lts.Need-loop-less-2 (
+  emit-reads.Asked,
+  emit-reads.Learnt,
+  inline-table-turn-reads.Asked,
+  inline-table-turn-reads.Learnt,
+  on-array-open-below t,
+  on-array-open.Post,
+  on-inline-table-open-below t,
+  on-inline-table-open.Post,
+)
+    (on-inline-table-open-at t)
+    on-inline-table-open.Post
+    on-inline-table-open-Inv-loop
+    on-inline-table-open-μ-loop
+on-inline-table-open-loop-less-2 t c = omega (arith, array-moved (onOpen ((c .before .before .before .before .before .before .before .before .before .before .before .before .before .before .before .before .before .before .before .before .before .before .before .before .before .before .before .before .before .before .before .before .args) .levels - 1)) (λ nest. inlineTableTurn (span ((c .before .before .before .before .before .before .before .before .before .before .before .before .before .before .before .before .before .before .before .before .before .before .before .before .before .before .before .before .before .before .before .before .args) .head .start) ((c .before .before .before .before .before .before .before .before .before .before .before .before .before .before .before .before .before .before .before .before .before .before .before .before .before .before .before .before .before .before .before .before .args) .head .end)) nest) (λ f g w. refl) ((c .before .before .before .before .before .before .before .before .before .before .before .before .before .before .before .before .before .before .before .before .before .before .before .loop) .p) ((c .before .before .before .before .before .before .before .before .before .before .before .before .before .before .before .before .before .before .before .before .before .before .before .loop) .inv .0) ((c .before .before .before .before .before .before .before .before .before .before .before .before .before .before .before .before .before .before .before .before .inline-table-turn) .result .progress) ((c .before .before .before .before .before .before .before .before .before .before .before .before .before .before .before .before .before .before .before .before .inline-table-turn) .ensures) _ ((c .before .before .before .before .before .before .before .before .before .before .before .x) .given .1), (c .before .before .before .before .before .before .before .on-array-open) .ensures .on, (c .before .before .before .before .before .before .before .on-array-open) .ensures .good .low)
+
+on-inline-table-open-loop-again-2 : (t : ℕ) → on-inline-table-open-lts.Need-loop-again-2 (
+  emit-reads.Asked,
+  emit-reads.Learnt,
+  inline-table-turn-reads.Asked,
+  inline-table-turn-reads.Learnt,
+  on-array-open-below t,
+  on-array-open.Post,
+  on-inline-table-open-below t,
+  on-inline-table-open.Post,
+)
+    (on-inline-table-open-at t)
+    on-inline-table-open.Post
+    on-inline-table-open-Inv-loop
+    on-inline-table-open-μ-loop
+on-inline-table-open-loop-again-2 t c = (array-again (onOpen ((c .before .before .before .before .before .before .before .before .before .before .before .before .before .before .before .before .before .before .before .before .before .before .before .before .before .before .before .before .before .before .before .before .args) .levels - 1)) (λ nest. inlineTableTurn (span ((c .before .before .before .before .before .before .before .before .before .before .before .before .before .before .before .before .before .before .before .before .before .before .before .before .before .before .before .before .before .before .before .before .args) .head .start) ((c .before .before .before .before .before .before .before .before .before .before .before .before .before .before .before .before .before .before .before .before .before .before .before .before .before .before .before .before .before .before .before .before .args) .head .end)) nest) (λ f g w. refl) ((c .before .before .before .before .before .before .before .before .before .before .before .before .before .before .before .before .before .before .before .before .before .before .before .loop) .p) ((c .before .before .before .before .before .before .before .before .before .before .before .before .before .before .before .before .before .before .before .before .before .before .before .loop) .inv .0) ((c .before .before .before .before .before .before .before .before .before .before .before .before .before .before .before .before .before .before .before .before .inline-table-turn) .result .progress) ((c .before .before .before .before .before .before .before .before .before .before .before .before .before .before .before .before .before .before .before .before .inline-table-turn) .ensures) _ ((c .before .before .before .before .before .before .before .before .before .before .before .x) .given .1) ((c .before .before .before .before .before .before .before .on-array-open) .ensures) ((c .before .before .if2) .left), ((c .before .before .before .before .before .before .before .on-array-open .kept .1 .1 .1 .1 .1 .0) ∙ (c .before .before .before .before .before .before .before .before .before .before .before .before .before .before .before .before .before .before .before .before .inline-table-turn .kept .1 .1 .1 .1 .1 .0)) ∙ (c .before .before .before .before .before .before .before .before .before .before .before .before .before .before .before .before .before .before .before .before .before .before .before .loop) .inv .1, ((c .before .before .before .before .before .before .before .on-array-open .kept .1 .1 .1 .1 .1 .1 .0) ∙ (c .before .before .before .before .before .before .before .before .before .before .before .before .before .before .before .before .before .before .before .before .inline-table-turn .kept .1 .1 .1 .1 .1 .1 .0)) ∙ (c .before .before .before .before .before .before .before .before .before .before .before .before .before .before .before .before .before .before .before .before .before .before .before .loop) .inv .2)
+
+on-inline-table-open-enum-known-x-2 : (t : ℕ) → on-inline-table-open-lts.Need-enum-known-x-2 (
+  emit-reads.Asked,
+  emit-reads.Learnt,
+  inline-table-turn-reads.Asked,
+  inline-table-turn-reads.Learnt,
+  on-array-open-below t,
+  on-array-open.Post,
+  on-inline-table-open-below t,
+  on-inline-table-open.Post,
+)
+    (on-inline-table-open-at t)
+    on-inline-table-open.Post
+    on-inline-table-open-Inv-loop
+    on-inline-table-open-μ-loop
+on-inline-table-open-enum-known-x-2 t c = search needs
+
+on-inline-table-open-sub-on-inline-table-open :
+    (t : ℕ) → on-inline-table-open-lts.Need-sub-on-inline-table-open (
+      emit-reads.Asked,
+      emit-reads.Learnt,
+      inline-table-turn-reads.Asked,
+      inline-table-turn-reads.Learnt,
+      on-array-open-below t,
+      on-array-open.Post,
+      on-inline-table-open-below t,
+      on-inline-table-open.Post,
+    )
+    (on-inline-table-open-at t)
+    on-inline-table-open.Post
+    on-inline-table-open-Inv-loop
+    on-inline-table-open-μ-loop
+on-inline-table-open-sub-on-inline-table-open t c = omega (arith, (c .before .before .before .before .before .before .before .before .before .before .before .before .before .before .before .before .before .before .if1) .left)
+
+on-inline-table-open-on-inline-table-open-requires :
+    (t : ℕ) → on-inline-table-open-lts.Need-on-inline-table-open-requires (
+      emit-reads.Asked,
+      emit-reads.Learnt,
+      inline-table-turn-reads.Asked,
+      inline-table-turn-reads.Learnt,
+      on-array-open-below t,
+      on-array-open.Post,
+      on-inline-table-open-below t,
+      on-inline-table-open.Post,
+    )
+    (on-inline-table-open-at t)
+    on-inline-table-open.Post
+    on-inline-table-open-Inv-loop
+    on-inline-table-open-μ-loop
+on-inline-table-open-on-inline-table-open-requires t c κs = (omega (arith, (c .before .before .before .before .before .before .before .before .before .before .before .before .before .before .before .before .before .before .before .before .if1) .left, (c .before .before .before .before .before .before .before .before .before .before .before .before .before .before .before .before .before .before .before .before .before .before .before .before .pre) .0), (c .before .before .before .before .before .before .before .before .before .before .before .before .inline-table-turn) .ensures .good)
+
+on-inline-table-open-same-length-5 : (t : ℕ) → on-inline-table-open-lts.Need-same-length-5 (
+  emit-reads.Asked,
+  emit-reads.Learnt,
+  inline-table-turn-reads.Asked,
+  inline-table-turn-reads.Learnt,
+  on-array-open-below t,
+  on-array-open.Post,
+  on-inline-table-open-below t,
+  on-inline-table-open.Post,
+)
+    (on-inline-table-open-at t)
+    on-inline-table-open.Post
+    on-inline-table-open-Inv-loop
+    on-inline-table-open-μ-loop
+on-inline-table-open-same-length-5 t c = ((c .before .before .before .before .before .on-inline-table-open .kept .1 .1 .1 .1 .1 .0) ∙ (c .before .before .before .before .before .before .before .before .before .before .before .before .before .before .before .before .before .before .inline-table-turn .kept .1 .1 .1 .1 .1 .0)) ∙ (c .before .before .before .before .before .before .before .before .before .before .before .before .before .before .before .before .before .before .before .before .before .loop) .inv .1 ∙ (c .before .before .before .before .before .before .before .before .before .before .before .before .before .before .before .before .before .before .before .before .before .before .before .before .emit) .kept .0
+
+on-inline-table-open-same-length-6 : (t : ℕ) → on-inline-table-open-lts.Need-same-length-6 (
+  emit-reads.Asked,
+  emit-reads.Learnt,
+  inline-table-turn-reads.Asked,
+  inline-table-turn-reads.Learnt,
+  on-array-open-below t,
+  on-array-open.Post,
+  on-inline-table-open-below t,
+  on-inline-table-open.Post,
+)
+    (on-inline-table-open-at t)
+    on-inline-table-open.Post
+    on-inline-table-open-Inv-loop
+    on-inline-table-open-μ-loop
+on-inline-table-open-same-length-6 t c = ((c .before .before .before .before .before .on-inline-table-open .kept .1 .1 .1 .1 .1 .1 .0) ∙ (c .before .before .before .before .before .before .before .before .before .before .before .before .before .before .before .before .before .before .inline-table-turn .kept .1 .1 .1 .1 .1 .1 .0)) ∙ (c .before .before .before .before .before .before .before .before .before .before .before .before .before .before .before .before .before .before .before .before .before .loop) .inv .2
+
+on-inline-table-open-returns-4 : (t : ℕ) → on-inline-table-open-lts.Need-returns-4 (
+  emit-reads.Asked,
+  emit-reads.Learnt,
+  inline-table-turn-reads.Asked,
+  inline-table-turn-reads.Learnt,
+  on-array-open-below t,
+  on-array-open.Post,
+  on-inline-table-open-below t,
+  on-inline-table-open.Post,
+)
+    (on-inline-table-open-at t)
+    on-inline-table-open.Post
+    on-inline-table-open-Inv-loop
+    on-inline-table-open-μ-loop
+on-inline-table-open-returns-4 t c = nested-as (open-table ((c .before .before .before .before .before .before .before .before .before .before .before .before .before .before .before .before .before .before .before .before .before .before .before .before .before .before .before .before .before .before .args) .levels) _ _ _ ((c .before .before .before .before .before .before .before .before .before .before .before .before .before .before .before .before .before .before .before .before .before .before .before .before .before .before .if1) .left)) (nested-item _ _ (λ all. (c .before .before .before .before .before .before .before .before .before .before .before .before .before .before .before .before .before .before .before .before .before .before .before .before .emit) .ensures all _) (table-stop (onOpen ((c .before .before .before .before .before .before .before .before .before .before .before .before .before .before .before .before .before .before .before .before .before .before .before .before .before .before .before .before .before .before .args) .levels - 1)) (λ nest. inlineTableTurn (span ((c .before .before .before .before .before .before .before .before .before .before .before .before .before .before .before .before .before .before .before .before .before .before .before .before .before .before .before .before .before .before .args) .head .start) ((c .before .before .before .before .before .before .before .before .before .before .before .before .before .before .before .before .before .before .before .before .before .before .before .before .before .before .before .before .before .before .args) .head .end)) nest) (λ f g w. refl) ((c .before .before .before .before .before .before .before .before .before .before .before .before .before .before .before .before .before .before .before .before .before .loop) .p) ((c .before .before .before .before .before .before .before .before .before .before .before .before .before .before .before .before .before .before .before .before .before .loop) .inv .0) ((c .before .before .before .before .before .before .before .before .before .before .before .before .before .before .before .before .before .before .inline-table-turn) .result .progress) ((c .before .before .before .before .before .before .before .before .before .before .before .before .before .before .before .before .before .before .inline-table-turn) .ensures) _ ((c .before .before .before .before .before .before .before .before .before .x2) .given .1) ((c .before .before .before .before .before .on-inline-table-open) .ensures) ((c .if3) .taken)))
+
+on-inline-table-open-loop-less-3 : (t : ℕ) → on-inline-table-open-lts.Need-loop-less-3 (
+  emit-reads.Asked,
+  emit-reads.Learnt,
+  inline-table-turn-reads.Asked,
+  inline-table-turn-reads.Learnt,
+  on-array-open-below t,
+  on-array-open.Post,
+  on-inline-table-open-below t,
+  on-inline-table-open.Post,
+)
+    (on-inline-table-open-at t)
+    on-inline-table-open.Post
+    on-inline-table-open-Inv-loop
+    on-inline-table-open-μ-loop
+on-inline-table-open-loop-less-3 t c = omega (arith, table-moved (onOpen ((c .before .before .before .before .before .before .before .before .before .before .before .before .before .before .before .before .before .before .before .before .before .before .before .before .before .before .before .before .before .before .before .before .args) .levels - 1)) (λ nest. inlineTableTurn (span ((c .before .before .before .before .before .before .before .before .before .before .before .before .before .before .before .before .before .before .before .before .before .before .before .before .before .before .before .before .before .before .before .before .args) .head .start) ((c .before .before .before .before .before .before .before .before .before .before .before .before .before .before .before .before .before .before .before .before .before .before .before .before .before .before .before .before .before .before .before .before .args) .head .end)) nest) (λ f g w. refl) ((c .before .before .before .before .before .before .before .before .before .before .before .before .before .before .before .before .before .before .before .before .before .before .before .loop) .p) ((c .before .before .before .before .before .before .before .before .before .before .before .before .before .before .before .before .before .before .before .before .before .before .before .loop) .inv .0) ((c .before .before .before .before .before .before .before .before .before .before .before .before .before .before .before .before .before .before .before .before .inline-table-turn) .result .progress) ((c .before .before .before .before .before .before .before .before .before .before .before .before .before .before .before .before .before .before .before .before .inline-table-turn) .ensures) _ ((c .before .before .before .before .before .before .before .before .before .before .before .x2) .given .1), (c .before .before .before .before .before .before .before .on-inline-table-open) .ensures .on, (c .before .before .before .before .before .before .before .on-inline-table-open) .ensures .good .low)
+
+on-inline-table-open-loop-again-3 : (t : ℕ) → on-inline-table-open-lts.Need-loop-again-3 (
+  emit-reads.Asked,
+  emit-reads.Learnt,
+  inline-table-turn-reads.Asked,
+  inline-table-turn-reads.Learnt,
+  on-array-open-below t,
+  on-array-open.Post,
+  on-inline-table-open-below t,
+  on-inline-table-open.Post,
+)
+    (on-inline-table-open-at t)
+    on-inline-table-open.Post
+    on-inline-table-open-Inv-loop
+    on-inline-table-open-μ-loop
+on-inline-table-open-loop-again-3 t c = (table-again (onOpen ((c .before .before .before .before .before .before .before .before .before .before .before .before .before .before .before .before .before .before .before .before .before .before .before .before .before .before .before .before .before .before .before .before .args) .levels - 1)) (λ nest. inlineTableTurn (span ((c .before .before .before .before .before .before .before .before .before .before .before .before .before .before .before .before .before .before .before .before .before .before .before .before .before .before .before .before .before .before .before .before .args) .head .start) ((c .before .before .before .before .before .before .before .before .before .before .before .before .before .before .before .before .before .before .before .before .before .before .before .before .before .before .before .before .before .before .before .before .args) .head .end)) nest) (λ f g w. refl) ((c .before .before .before .before .before .before .before .before .before .before .before .before .before .before .before .before .before .before .before .before .before .before .before .loop) .p) ((c .before .before .before .before .before .before .before .before .before .before .before .before .before .before .before .before .before .before .before .before .before .before .before .loop) .inv .0) ((c .before .before .before .before .before .before .before .before .before .before .before .before .before .before .before .before .before .before .before .before .inline-table-turn) .result .progress) ((c .before .before .before .before .before .before .before .before .before .before .before .before .before .before .before .before .before .before .before .before .inline-table-turn) .ensures) _ ((c .before .before .before .before .before .before .before .before .before .before .before .x2) .given .1) ((c .before .before .before .before .before .before .before .on-inline-table-open) .ensures) ((c .before .before .if3) .left), ((c .before .before .before .before .before .before .before .on-inline-table-open .kept .1 .1 .1 .1 .1 .0) ∙ (c .before .before .before .before .before .before .before .before .before .before .before .before .before .before .before .before .before .before .before .before .inline-table-turn .kept .1 .1 .1 .1 .1 .0)) ∙ (c .before .before .before .before .before .before .before .before .before .before .before .before .before .before .before .before .before .before .before .before .before .before .before .loop) .inv .1, ((c .before .before .before .before .before .before .before .on-inline-table-open .kept .1 .1 .1 .1 .1 .1 .0) ∙ (c .before .before .before .before .before .before .before .before .before .before .before .before .before .before .before .before .before .before .before .before .inline-table-turn .kept .1 .1 .1 .1 .1 .1 .0)) ∙ (c .before .before .before .before .before .before .before .before .before .before .before .before .before .before .before .before .before .before .before .before .before .before .before .loop) .inv .2)
+
+pub +on-array-open+on-inline-table-open-spec : {M : Type 1} → statement M
++on-array-open+on-inline-table-open-spec =
+    close μ-on-array-open μ-on-inline-table-open (λ t. on-array-open-lts.spec (
+      emit-reads.Asked,
+      emit-reads.Learnt,
+      array-turn-reads.Asked,
+      array-turn-reads.Learnt,
+      on-array-open-below t,
+      on-array-open.Post,
+      on-inline-table-open-below t,
+      on-inline-table-open.Post,
+    )
+    (on-array-open-at t)
+    on-array-open.Post
+    on-array-open-Inv-loop
+    on-array-open-μ-loop
+    (on-array-open-returns t)
+    (on-array-open-emit-requires t)
+    (on-array-open-loop-holds t)
+    (on-array-open-array-turn-requires t)
+    (on-array-open-enum-told t)
+    (on-array-open-loop-less t)
+    (on-array-open-loop-again t)
+    (on-array-open-enum-told-2 t)
+    (on-array-open-same-length t)
+    (on-array-open-same-length-2 t)
+    (on-array-open-returns-2 t)
+    (on-array-open-enum-known-x t)
+    (on-array-open-sub-on-array-open t)
+    (on-array-open-on-array-open-requires t)
+    (on-array-open-same-length-3 t)
+    (on-array-open-same-length-4 t)
+    (on-array-open-returns-3 t)
+    (on-array-open-loop-less-2 t)
+    (on-array-open-loop-again-2 t)
+    (on-array-open-enum-known-x-2 t)
+    (on-array-open-sub-on-inline-table-open t)
+    (on-array-open-on-inline-table-open-requires t)
+    (on-array-open-same-length-5 t)
+    (on-array-open-same-length-6 t)
+    (on-array-open-returns-4 t)
+    (on-array-open-loop-less-3 t)
+    (on-array-open-loop-again-3 t))
+    λ t. on-inline-table-open-lts.spec (
+      emit-reads.Asked,
+      emit-reads.Learnt,
+      inline-table-turn-reads.Asked,
+      inline-table-turn-reads.Learnt,
+      on-array-open-below t,
+      on-array-open.Post,
+      on-inline-table-open-below t,
+      on-inline-table-open.Post,
+    )
+    (on-inline-table-open-at t)
+    on-inline-table-open.Post
+    on-inline-table-open-Inv-loop
+    on-inline-table-open-μ-loop
+    (on-inline-table-open-returns t)
+    (on-inline-table-open-emit-requires t)
+    (on-inline-table-open-loop-holds t)
+    (on-inline-table-open-inline-table-turn-requires t)
+    (on-inline-table-open-enum-told t)
+    (on-inline-table-open-loop-less t)
+    (on-inline-table-open-loop-again t)
+    (on-inline-table-open-enum-told-2 t)
+    (on-inline-table-open-same-length t)
+    (on-inline-table-open-same-length-2 t)
+    (on-inline-table-open-returns-2 t)
+    (on-inline-table-open-enum-known-x t)
+    (on-inline-table-open-sub-on-array-open t)
+    (on-inline-table-open-on-array-open-requires t)
+    (on-inline-table-open-same-length-3 t)
+    (on-inline-table-open-same-length-4 t)
+    (on-inline-table-open-returns-3 t)
+    (on-inline-table-open-loop-less-2 t)
+    (on-inline-table-open-loop-again-2 t)
+    (on-inline-table-open-enum-known-x-2 t)
+    (on-inline-table-open-sub-on-inline-table-open t)
+    (on-inline-table-open-on-inline-table-open-requires t)
+    (on-inline-table-open-same-length-5 t)
+    (on-inline-table-open-same-length-6 t)
+    (on-inline-table-open-returns-4 t)
+    (on-inline-table-open-loop-less-3 t)
+    (on-inline-table-open-loop-again-3 t)
