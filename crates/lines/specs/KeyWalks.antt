@@ -7,7 +7,6 @@ use Rattle.token.specs.Tokens.{Tok}
 use Rattle.token.specs.declared.cursor.Cursor.{Cursor}
 use Rattle.rules.specs.declared.event.Encoding.{Encoding}
 use Rattle.rules.specs.Out.{Out, Item, report, found, afterFound, done, _▹_}
-use Rattle.rules.specs.Expected as expected
 use Rattle.rules.specs.Receiver as receiver
 use Rattle.rules.specs.Keys.{lastSignificant}
 use Rattle.lines.specs.declared.emitting.Walk.{Walk}
@@ -23,9 +22,9 @@ pub record Keyed (s : List ℕ) (r : Out) (ok : Bool) (c : Cursor) (o : Bufs) (a
   pub goes : Goes s r c o a b (walkOf w)
   pub valid : w .valid ≡ ok
 
--- the report where the list ends before a part
-abbrev pub missingKey : ℕ → Item
-missingKey m = report m expected.aKey (found lastSignificant) (afterFound lastSignificant)
+-- the report where the list ends before what is expected
+abbrev pub nothingLeft : ℕ → ℕ → Item
+nothingLeft m x = report m x (found lastSignificant) (afterFound lastSignificant)
 
 -- a simple key at a..b, and no more
 abbrev pub simpleKeyAt : Encoding → ℕ → ℕ → List Tok → Out

@@ -8,3 +8,4 @@ pub mod LookLaws
 pub mod ScalarWalks
 pub mod PourLaws
 pub mod AnswerLaws
+pub mod DotLaws

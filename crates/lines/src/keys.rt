@@ -26,7 +26,7 @@ ghost use Rattle.rules.specs.Keys.{optWhitespace, optDotKeys, optDotKeysValid, 
 ghost use Rattle.rules.specs.Skipping.{inLine};
 ghost use Rattle.lines.specs.Pour.{bufs, put};
 ghost use Rattle.lines.specs.Walks.{Goes};
-ghost use Rattle.lines.specs.KeyWalks.{Keyed, missingKey, simpleKeyAt};
+ghost use Rattle.lines.specs.KeyWalks.{Keyed, nothingLeft, simpleKeyAt};
 
 // Where the walk over a key ended, the counts there, and whether the key was valid.
 pub struct KeyWalk {
@@ -125,18 +125,25 @@ pub fn opt_dot_keys(
     KeyWalk { cur, n, valid }
 }
 
-// The message where the list ends before a part: the token before is to blame.
-fn no_key(s: &[u8], c: Cursor, m: Counts, message: u32, errors: &mut [u32]) -> Counts
+// The report where the list ends before what is expected: the token before is to blame.
+pub fn nothing_left(
+    s: &[u8],
+    c: Cursor,
+    m: Counts,
+    message: u32,
+    expected: u32,
+    errors: &mut [u32],
+) -> Counts
     requires { ⌜ Good (now s) c ⌝ }
     requires { ⌜ tokensAt (now s) c ≡ [] ⌝ }
-    ensures { λ r. ⌜ ((base : ℕ) (events : List ℕ) → c .base ≡ base → bufs events (now (errors .exit)) r ≡ put (allTokens (now (s .entry)) base) (missingKey message) (bufs events (now (errors .entry)) m)) ⌝ }
+    ensures { λ r. ⌜ ((base : ℕ) (events : List ℕ) → c .base ≡ base → bufs events (now (errors .exit)) r ≡ put (allTokens (now (s .entry)) base) (nothingLeft message expected) (bufs events (now (errors .entry)) m)) ⌝ }
 {
     let last = c.nearest_before(s, Sought::Significant, Span { start: 0, end: 0 });
     report(
         errors,
         m,
         message,
-        A_KEY,
+        expected,
         last.start,
         last.end,
         last.end,
@@ -160,7 +167,7 @@ pub fn key(
     loop {
         let step = cur.next(s);
         let Step::Got(t, past) = step else {
-            n = no_key(s, cur, n, message, errors);
+            n = nothing_left(s, cur, n, message, A_KEY, errors);
             return KeyWalk {
                 cur,
                 n,
@@ -312,7 +319,7 @@ pub fn simple_key(
 {
     let step = c.next(s);
     let Step::Got(t, past) = step else {
-        let n = no_key(s, c, m, message, errors);
+        let n = nothing_left(s, c, m, message, A_KEY, errors);
         return Walk { cur: c, n };
     };
     let k = t.kind;

@@ -3,11 +3,7 @@ use mathlib.Core.Path.{_≡_, refl, ap, sym, subst, _∙_}
 use mathlib.Core.Bool.{Bool, true, false}
 use mathlib.Core.List.{List, [], _∷_}
 use Prim.Native.Nat.{ℕ, suc, _+_, _-_, _≤_}
-use native.Mathlib.Nat.{le-refl, le-step}
-use native.Mathlib.Omega.{arith}
-use lib.ListN.{length}
-use Rattle.token.specs.Tokens.{Tok, tok, allTokens, tokensAt, Good, Took, Back}
-use Rattle.token.specs.CursorLaws.{back-past, left-length}
+use Rattle.token.specs.Tokens.{Tok, tok, allTokens, tokensAt, Took}
 use Rattle.token.specs.declared.kind.Kind.{Kind}
 use Rattle.token.specs.declared.kind.Kind.the-variants.{Dot, Equals, Comma, LeftSquareBracket, RightSquareBracket, LeftCurlyBracket, RightCurlyBracket, Whitespace, Comment, Newline, LiteralString, BasicString, MlLiteralString, MlBasicString, Atom, Eof}
 use Rattle.token.specs.declared.cursor.Token.{Token}
@@ -18,19 +14,17 @@ use Rattle.rules.specs.declared.inline_table.Action.{Action}
 use Rattle.rules.specs.declared.inline_table.Action.the-variants as A
 use Rattle.rules.specs.declared.inline_table.State.{State}
 use Rattle.rules.specs.declared.inline_table.Progress.{Progress}
-use Rattle.rules.specs.declared.keys.InKey.{InKey}
 use Rattle.rules.specs.declared.scalar.Starting.{Starting}
 use Rattle.rules.specs.declared.event.Encoding.{Encoding}
 use Rattle.rules.specs.declared.event.Event.{Event}
 use Rattle.rules.specs.Out.{Place, event, report, Out, done, _▹_, _then_}
-use Rattle.rules.specs.Keys.{inKey, optDotKeys, dotKeys, afterDot, afterPartStep, dotStep, partStep}
 use Rattle.rules.specs.Scalar.{startingOf}
 use Rattle.rules.specs.Array.{Nest, inArray, arrayStep, arrayTurn, arrayComma, missingComma}
 use Rattle.rules.specs.InlineTable.{actionOf, progress, trailing, inlineTableStep, inlineTableTurn}
 use Rattle.lines.specs.declared.emitting.Walk.{Walk}
 use Rattle.lines.specs.Pour.{Bufs, bufs, put}
 use Rattle.lines.specs.Walks.{run, Goes}
-use Rattle.lines.specs.WalkLaws.{at-token, first-item, then-on, goes-rest}
+use Rattle.lines.specs.WalkLaws.{at-token, first-item, then-on}
 use Rattle.lines.specs.ScalarWalks.{Starts}
 
 -- arrays: the token that was read, by what its kind is to an array
@@ -140,58 +134,6 @@ tells State.NeedsComma k = column k .3
 
 pub action-tells : (st : State) (k : Kind) (x y : Action) → x ≡ actionOf st k → x ≡ y → Tells y k
 action-tells st k x y p q = subst (λ (z : Action). Tells z k) (sym p ∙ q) (tells st k)
-
--- no key rule steps back
-pub Short : Out → ℕ → Type 0
-Short o n = length (o .rest) ≤ n
-
-after-part-short : (x : InKey) (a b n : ℕ) (here dots part : Out) → Short here (suc n) → Short dots n → Short part n → Short (afterPartStep x a b here dots part) (suc n)
-unfolding Short
-after-part-short (InKey.Part e) a b n here dots part h i j = h
-after-part-short InKey.Whitespace a b n here dots part h i j = le-step i
-after-part-short InKey.Dot a b n here dots part h i j = le-step j
-after-part-short InKey.Other a b n here dots part h i j = h
-
-dot-short : (x : InKey) (a b n : ℕ) (here part : Out) → Short here (suc n) → Short part n → Short (dotStep x a b here part) (suc n)
-unfolding Short
-dot-short (InKey.Part e) a b n here part h j = h
-dot-short InKey.Whitespace a b n here part h j = h
-dot-short InKey.Dot a b n here part h j = le-step j
-dot-short InKey.Other a b n here part h j = h
-
-part-short : (x : InKey) (a b n : ℕ) (here part on : Out) → Short here (suc n) → Short part n → Short on n → Short (partStep x a b here part on) (suc n)
-unfolding Short
-part-short (InKey.Part e) a b n here part on h i j = le-step j
-part-short InKey.Whitespace a b n here part on h i j = le-step i
-part-short InKey.Dot a b n here part on h i j = le-step i
-part-short InKey.Other a b n here part on h i j = h
-
-unfoldable mutual
-  unfolding Short
-
-  keys-short : (ts : List Tok) → Short (optDotKeys ts) (length ts)
-  keys-short [] = le-refl 0
-  keys-short (tok k a b ∷ ts) = after-part-short (inKey k) a b (length ts) (done (tok k a b ∷ ts)) (dotKeys ts) (afterDot ts b) (le-refl _) (dots-short ts) (scan-short ts b)
-
-  dots-short : (ts : List Tok) → Short (dotKeys ts) (length ts)
-  dots-short [] = le-refl 0
-  dots-short (tok k a b ∷ ts) = dot-short (inKey k) a b (length ts) (done (tok k a b ∷ ts)) (afterDot ts b) (le-refl _) (scan-short ts b)
-
-  scan-short : (ts : List Tok) (d : ℕ) → Short (afterDot ts d) (length ts)
-  scan-short [] d = le-refl 0
-  scan-short (tok k a b ∷ ts) d = part-short (inKey k) a b (length ts) (done (tok k a b ∷ ts)) (afterDot ts d) (optDotKeys ts) (le-refl _) (scan-short ts d) (keys-short ts)
-
--- a key that begins with the dot that was read goes past it
-pub past-dot : (s : List ℕ) (c : Cursor) (t : Token) (d e : Cursor) {o : Bufs} {a b : List ℕ} {w : Walk} → Good s c → Took s c t d → Back s d e → t .kind ≡ Dot → Goes s (optDotKeys (tokensAt s e)) e o a b w → c .at + 1 ≤ w .cur .at
-unfolding Short
-past-dot s c t d e {w = w} g k h i x =
-    let z : tokensAt s e ≡ tok Dot (t .start) (t .end) ∷ tokensAt s d = ap (tokensAt s) (back-past s c t d e g k h) ∙ k .seen ∙ ap (λ (j : Kind). tok j (t .start) (t .end) ∷ tokensAt s d) i in
-    let l : length (tokensAt s (w .cur)) ≤ length (tokensAt s d) = rw (goes-rest x, z) (scan-short (tokensAt s d) (t .end)) in
-    omega (arith, l, left-length s (w .cur), left-length s d, x .good .low, k .on, k .left, k .good .low)
-
--- and gives what the rule says from the dot on
-pub from-dot : (s : List ℕ) (c : Cursor) (t : Token) (d e : Cursor) → Good s c → Took s c t d → Back s d e → optDotKeys (tokensAt s e) ≡ optDotKeys (tok (t .kind) (t .start) (t .end) ∷ tokensAt s d)
-from-dot s c t d e g k h = ap optDotKeys (ap (tokensAt s) (back-past s c t d e g k h) ∙ k .seen)
 
 -- on with the loop from where a walk ended
 pub then-goes : {s : List ℕ} {g : Out} {d : Cursor} {o : Bufs} {a b : List ℕ} {w : Walk} (f : List Tok → Out) → Goes s g d o a b w → (base : ℕ) → d .base ≡ base → run (allTokens s base) (g then f) o ≡ run (allTokens s base) (f (tokensAt s (w .cur))) (bufs a b (w .n))

@@ -11,7 +11,8 @@ use Rattle.lines.specs.Pour.{bufs}
 use Rattle.lines.specs.WalkLaws.{Looped, begun, again, finish, finish-by, first-item, run-done, told, told-done}
 use Rattle.rules.specs.Out.{done, _▹_}
 use Rattle.rules.specs.Keys.{key, keyValid}
-use Rattle.lines.specs.KeyWalks.{missingKey}
+use Rattle.lines.specs.KeyWalks.{nothingLeft}
+use Rattle.rules.specs.Expected as expected
 use Rattle.lines.specs.WalkLaws.{at-end}
 use Rattle.lines.proofs.KeyLaws.{key-at, key-valid, back-at}
 use borrow.Author.Needs.{needs}
@@ -38,19 +39,19 @@ enum-known-step c = search needs
 enum-told : tie.Need-enum-told Inv-loop μ-loop
 enum-told c = search needs
 
-no-key-requires : tie.Need-no-key-requires Inv-loop μ-loop
-no-key-requires c κs = (((c .before .before .before .before .loop) .inv .0) .good, (told-done _ _ _ ((c .before .before .before .next) .ensures) ((c .before .enum-told) .given .1)))
+nothing-left-requires : tie.Need-nothing-left-requires Inv-loop μ-loop
+nothing-left-requires c κs = (((c .before .before .before .before .loop) .inv .0) .good, (told-done _ _ _ ((c .before .before .before .next) .ensures) ((c .before .enum-told) .given .1)))
 
 same-length : tie.Need-same-length Inv-loop μ-loop
 same-length c = (refl) ∙ (c .before .before .before .before .before .before .before .loop) .inv .1
 
 same-length-2 : tie.Need-same-length-2 Inv-loop μ-loop
-same-length-2 c = ((c .before .before .no-key .kept .1 .1 .1 .1 .0)) ∙ (c .before .before .before .before .before .before .before .loop) .inv .2
+same-length-2 c = ((c .before .before .nothing-left .kept .1 .1 .1 .1 .1 .0)) ∙ (c .before .before .before .before .before .before .before .loop) .inv .2
 
 returns : tie.Need-returns Inv-loop μ-loop
 returns c =
     record {
-      goes = finish ((c .before .before .before .before .before .before .before .loop) .inv .0) _ _ _ (at-end _ _ _ _ (key ((c .before .before .before .before .before .before .before .before .before .before .before .args) .message)) (λ ts. missingKey ((c .before .before .before .before .before .before .before .before .before .before .before .args) .message) ▹ done ts) (told-done _ _ _ ((c .before .before .before .before .before .before .next) .ensures) ((c .before .before .before .before .enum-told) .given .1)) refl ∙ first-item _ _ _ _ _ ((c .before .before .no-key) .ensures _ _ (((c .before .before .before .before .before .before .before .loop) .inv .0) .base)) ∙ run-done _ _ _ _ _ _) (omega arith) refl (((c .before .before .before .before .before .before .before .loop) .inv .0) .good);
+      goes = finish ((c .before .before .before .before .before .before .before .loop) .inv .0) _ _ _ (at-end _ _ _ _ (key ((c .before .before .before .before .before .before .before .before .before .before .before .args) .message)) (λ ts. nothingLeft ((c .before .before .before .before .before .before .before .before .before .before .before .args) .message) expected.aKey ▹ done ts) (told-done _ _ _ ((c .before .before .before .before .before .before .next) .ensures) ((c .before .before .before .before .enum-told) .given .1)) refl ∙ first-item _ _ _ _ _ ((c .before .before .nothing-left) .ensures _ _ (((c .before .before .before .before .before .before .before .loop) .inv .0) .base)) ∙ run-done _ _ _ _ _ _) (omega arith) refl (((c .before .before .before .before .before .before .before .loop) .inv .0) .good);
       valid = sym (ap keyValid (told-done _ _ _ ((c .before .before .before .before .before .before .next) .ensures) ((c .before .before .before .before .enum-told) .given .1))) ∙ (c .before .before .before .before .before .before .before .loop) .inv .3;
     }
 
@@ -148,7 +149,7 @@ key-spec =
     next-requires
     enum-known-step
     enum-told
-    no-key-requires
+    nothing-left-requires
     same-length
     same-length-2
     returns

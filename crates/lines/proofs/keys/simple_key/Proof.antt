@@ -4,7 +4,8 @@ use mathlib.Core.Path.{_≡_, refl, ap, sym, _∙_}
 use native.Mathlib.Omega.{arith}
 use Rattle.rules.specs.Out.{done, _▹_}
 use Rattle.rules.specs.Keys.{simpleKey}
-use Rattle.lines.specs.KeyWalks.{missingKey}
+use Rattle.lines.specs.KeyWalks.{nothingLeft}
+use Rattle.rules.specs.Expected as expected
 use Rattle.lines.specs.WalkLaws.{told, told-done, by-rule, rule-end, first-item, run-done, goes-by, goes-as, goes-past}
 use Rattle.lines.proofs.KeyLaws.{simple-at}
 use borrow.Author.Needs.{needs}
@@ -20,8 +21,8 @@ enum-known-step c = search needs
 enum-told : tie.Need-enum-told
 enum-told c = search needs
 
-no-key-requires : tie.Need-no-key-requires
-no-key-requires c κs = ((c .before .before .before .before .before .before .before .pre), (told-done _ _ _ ((c .before .before .before .next) .ensures) ((c .before .enum-told) .given .1)))
+nothing-left-requires : tie.Need-nothing-left-requires
+nothing-left-requires c κs = ((c .before .before .before .before .before .before .before .pre), (told-done _ _ _ ((c .before .before .before .next) .ensures) ((c .before .enum-told) .given .1)))
 
 same-length : tie.Need-same-length
 same-length c = search needs
@@ -29,7 +30,7 @@ same-length c = search needs
 returns : tie.Need-returns
 returns c =
     goes-by _ _ _ _ _ _
-    (λ base q. by-rule _ _ _ _ (rule-end _ _ (simpleKey ((c .before .before .before .before .before .before .before .before .before .before .args) .message)) (λ ts. missingKey ((c .before .before .before .before .before .before .before .before .before .before .args) .message) ▹ done ts) (told-done _ _ _ ((c .before .before .before .before .before .before .next) .ensures) ((c .before .before .before .before .enum-told) .given .1)) refl) ∙ first-item _ _ _ _ _ ((c .before .before .no-key) .ensures _ _ q) ∙ run-done _ _ _ _ _ _)
+    (λ base q. by-rule _ _ _ _ (rule-end _ _ (simpleKey ((c .before .before .before .before .before .before .before .before .before .before .args) .message)) (λ ts. nothingLeft ((c .before .before .before .before .before .before .before .before .before .before .args) .message) expected.aKey ▹ done ts) (told-done _ _ _ ((c .before .before .before .before .before .before .next) .ensures) ((c .before .before .before .before .enum-told) .given .1)) refl) ∙ first-item _ _ _ _ _ ((c .before .before .nothing-left) .ensures _ _ q) ∙ run-done _ _ _ _ _ _)
     (c .before .before .before .before .before .before .before .before .before .before .pre) (omega arith) refl
 
 in-key-requires : tie.Need-in-key-requires
@@ -102,7 +103,7 @@ simple-key-spec =
     next-requires
     enum-known-step
     enum-told
-    no-key-requires
+    nothing-left-requires
     same-length
     returns
     in-key-requires

@@ -12,8 +12,9 @@ use Rattle.rules.specs.Keys.{optDotKeys}
 use Rattle.rules.specs.InlineTable.{progress, refused, trailing, inlineTableTurn}
 use Rattle.lines.specs.Pour.{bufs}
 use Rattle.lines.specs.WalkLaws.{told, told-done, at-end, first-item, first-items}
+use Rattle.lines.specs.DotLaws.{past-dot, from-dot}
 use Rattle.nest.specs.Turning.{unclosedItems}
-use Rattle.nest.proofs.TurnLaws.{table-at, action-tells, then-goes, then-dot, past-dot, from-dot, first-wanted, first-key}
+use Rattle.nest.proofs.TurnLaws.{table-at, action-tells, then-goes, then-dot, first-wanted, first-key}
 use borrow.Author.Needs.{needs}
 use Rattle.nest.proofs.inline_table.inline_table_turn.Statement.{statement}
 use Rattle.nest.proofs.inline_table.inline_table_turn.Tie as tie

@@ -5,8 +5,8 @@ use Rattle.token.specs.Spans.{spanAfter}
 use Rattle.token.specs.declared.span.Span.{Span}
 use Rattle.lines.specs.LookLaws.{looked-up, report-as, none-left}
 use borrow.Author.Needs.{needs}
-use Rattle.lines.proofs.keys.no_key.Statement.{statement}
-use Rattle.lines.proofs.keys.no_key.Tie as tie
+use Rattle.lines.proofs.keys.nothing_left.Statement.{statement}
+use Rattle.lines.proofs.keys.nothing_left.Tie as tie
 
 nearest-before-requires : tie.Need-nearest-before-requires
 nearest-before-requires c κs = search needs
@@ -20,8 +20,8 @@ same-length c = search needs
 returns : tie.Need-returns
 returns c = λ base events q. (c .before .before .report) .ensures _ events ∙ report-as _ _ _ _ _ _ _ _ (looked-up _ _ base _ _ _ _ ((c .before .before .before .before .before .before .before .pre) .0) q ((c .before .before .before .before .nearest-before) .ensures) (none-left _ _ ((c .before .before .before .before .before .before .before .pre) .1))) (ap spanAfter (looked-up _ _ base _ _ _ _ ((c .before .before .before .before .before .before .before .pre) .0) q ((c .before .before .before .before .nearest-before) .ensures) (none-left _ _ ((c .before .before .before .before .before .before .before .pre) .1))))
 
-pub no-key-spec : {M : Type 1} → statement M
-no-key-spec =
+pub nothing-left-spec : {M : Type 1} → statement M
+nothing-left-spec =
     tie.close
     (tie.spec
     nearest-before-requires
