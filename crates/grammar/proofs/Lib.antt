@@ -1,0 +1,3 @@
+pub mod GrammarLaws
+pub mod DocumentLaws
+pub mod EntryLaws

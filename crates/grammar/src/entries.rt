@@ -1,0 +1,223 @@
+// The four entries: record bytes, a base and two lent buffers in; the answer out, and the buffers filled.
+use crate::document::document;
+use crate::value::value;
+use lines::emitting::Counts;
+use lines::keys::key;
+use lines::keys::simple_key;
+use lines::message::INVALID_KEY;
+use lines::skipping::eof;
+use nest::nest::NestWalk;
+use rules::answer::Answer;
+use token::check::Checked;
+use token::check::check;
+use token::cursor::Cursor;
+ghost use mathlib.Core.Path.{_≡_};
+ghost use Rattle.token.specs.Tokens.{Good};
+ghost use Rattle.rules.specs.Entries.{documentEntry, keyEntry, simpleKeyEntry, valueEntry};
+ghost use Rattle.grammar.specs.Answers.{Answers, Closed, answerOf};
+
+// How many arrays and inline tables may be open within one another.
+pub const MAX_DEPTH: u32 = 64;
+
+// What is left behind the end, unless the walk was refused.
+fn closing(s: &[u8], v: NestWalk, events: &mut [u32], errors: &mut [u32]) -> NestWalk
+    requires { ⌜ Good (now s) (v .cur) ⌝ }
+    ensures { λ r. ⌜ Closed (now (s .entry)) v (now (events .entry)) (now (errors .entry)) (now (events .exit)) (now (errors .exit)) r ⌝ }
+{
+    let stopped = v.stopped;
+    if stopped {
+        return v;
+    }
+    let behind = v.cur;
+    let n = v.n;
+    let w = eof(s, behind, n, events, errors);
+    let cur = w.cur;
+    let end = w.n;
+    NestWalk {
+        cur,
+        n: end,
+        stopped: false,
+    }
+}
+
+// The answer of a walk: a level was refused at the record before the cursor; or the events or the errors do not fit; or all fits.
+fn answer_of(v: NestWalk, event_room: usize, error_room: usize) -> Answer
+    ensures { λ r. ⌜ r ≡ answerOf v «event_room» «error_room» ⌝ }
+{
+    let n = v.n;
+    let stopped = v.stopped;
+    if stopped {
+        let cur = v.cur;
+        let at = cur.at;
+        if at == 0 {
+            return Answer {
+                refusal: 6,
+                place: 0,
+                events: n.events,
+                errors: n.errors,
+            };
+        }
+        return Answer {
+            refusal: 6,
+            place: at - 1,
+            events: n.events,
+            errors: n.errors,
+        };
+    }
+    if event_room < n.events {
+        return Answer {
+            refusal: 7,
+            place: 0,
+            events: n.events,
+            errors: n.errors,
+        };
+    }
+    if error_room < n.errors {
+        return Answer {
+            refusal: 8,
+            place: 0,
+            events: n.events,
+            errors: n.errors,
+        };
+    }
+    Answer {
+        refusal: 0,
+        place: 0,
+        events: n.events,
+        errors: n.errors,
+    }
+}
+
+pub fn parse_document(s: &[u8], base: u32, events: &mut [u32], errors: &mut [u32]) -> Answer
+    ensures { λ r. ⌜ Answers documentEntry (now (s .entry)) base (now (events .entry)) (now (errors .entry)) (now (events .exit)) (now (errors .exit)) r ⌝ }
+{
+    let checked = check(s, base);
+    match checked {
+        Checked::Refused(refusal, place) => Answer {
+            refusal,
+            place,
+            events: 0,
+            errors: 0,
+        },
+        Checked::Passed => {
+            let c = Cursor::new(base);
+            let w = document(
+                s,
+                c,
+                Counts {
+                    events: 0,
+                    errors: 0,
+                },
+                MAX_DEPTH,
+                events,
+                errors,
+            );
+            let v = closing(s, w, events, errors);
+            answer_of(v, events.len() / 4, errors.len() / 6)
+        }
+    }
+}
+
+pub fn parse_key(s: &[u8], base: u32, events: &mut [u32], errors: &mut [u32]) -> Answer
+    ensures { λ r. ⌜ Answers keyEntry (now (s .entry)) base (now (events .entry)) (now (errors .entry)) (now (events .exit)) (now (errors .exit)) r ⌝ }
+{
+    let checked = check(s, base);
+    match checked {
+        Checked::Refused(refusal, place) => Answer {
+            refusal,
+            place,
+            events: 0,
+            errors: 0,
+        },
+        Checked::Passed => {
+            let c = Cursor::new(base);
+            let w = key(
+                s,
+                c,
+                Counts {
+                    events: 0,
+                    errors: 0,
+                },
+                INVALID_KEY,
+                events,
+                errors,
+            );
+            let cur = w.cur;
+            let n = w.n;
+            let z = NestWalk {
+                cur,
+                n,
+                stopped: false,
+            };
+            let v = closing(s, z, events, errors);
+            answer_of(v, events.len() / 4, errors.len() / 6)
+        }
+    }
+}
+
+pub fn parse_simple_key(s: &[u8], base: u32, events: &mut [u32], errors: &mut [u32]) -> Answer
+    ensures { λ r. ⌜ Answers simpleKeyEntry (now (s .entry)) base (now (events .entry)) (now (errors .entry)) (now (events .exit)) (now (errors .exit)) r ⌝ }
+{
+    let checked = check(s, base);
+    match checked {
+        Checked::Refused(refusal, place) => Answer {
+            refusal,
+            place,
+            events: 0,
+            errors: 0,
+        },
+        Checked::Passed => {
+            let c = Cursor::new(base);
+            let w = simple_key(
+                s,
+                c,
+                Counts {
+                    events: 0,
+                    errors: 0,
+                },
+                INVALID_KEY,
+                events,
+                errors,
+            );
+            let cur = w.cur;
+            let n = w.n;
+            let z = NestWalk {
+                cur,
+                n,
+                stopped: false,
+            };
+            let v = closing(s, z, events, errors);
+            answer_of(v, events.len() / 4, errors.len() / 6)
+        }
+    }
+}
+
+pub fn parse_value(s: &[u8], base: u32, events: &mut [u32], errors: &mut [u32]) -> Answer
+    ensures { λ r. ⌜ Answers valueEntry (now (s .entry)) base (now (events .entry)) (now (errors .entry)) (now (events .exit)) (now (errors .exit)) r ⌝ }
+{
+    let checked = check(s, base);
+    match checked {
+        Checked::Refused(refusal, place) => Answer {
+            refusal,
+            place,
+            events: 0,
+            errors: 0,
+        },
+        Checked::Passed => {
+            let c = Cursor::new(base);
+            let w = value(
+                s,
+                c,
+                Counts {
+                    events: 0,
+                    errors: 0,
+                },
+                MAX_DEPTH,
+                events,
+                errors,
+            );
+            let v = closing(s, w, events, errors);
+            answer_of(v, events.len() / 4, errors.len() / 6)
+        }
+    }
+}
