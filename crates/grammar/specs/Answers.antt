@@ -19,6 +19,11 @@ use Rattle.nest.specs.Nested.{Nested}
 abbrev pub Answers : Entry → List ℕ → ℕ → List ℕ → List ℕ → List ℕ → List ℕ → Answer → Type 0
 Answers entry s base events errors a b r = record { answer = r; events = a; errors = b } ≡ outcome entry s base events errors
 
+-- at each entry, two answers with the buffers after them that are the rules' answer are equal
+abbrev pub Determined : List ℕ → ℕ → List ℕ → List ℕ → Type 0
+Determined s base events errors =
+    (entry : Entry) (x y : Outcome) → Answers entry s base events errors (x .events) (x .errors) (x .answer) → Answers entry s base events errors (y .events) (y .errors) (y .answer) → x ≡ y
+
 -- a walk v by any rule g, and then what is left behind the end
 abbrev pub Closed : List ℕ → NestWalk → List ℕ → List ℕ → List ℕ → List ℕ → NestWalk → Type 0
 Closed s v a b a' b' v' = (g : Out) (c : Cursor) (o : Bufs) → Nested s g c o a b v → Nested s (g then eof) c o a' b' v'

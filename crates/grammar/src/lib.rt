@@ -3,4 +3,5 @@ pub mod document;
 pub mod entries;
 pub mod expression;
 pub mod table;
+pub mod theorems;
 pub mod value;
