@@ -1,6 +1,5 @@
 -- Each entry lies within the words: i is below the count.
 -- Made by ./proofs from Proof.tmpl: change that.
-use native.Mathlib.Omega.{arith}
 use Prim.Native.Nat.{_-_}
 use borrow.Author.Needs.{needs}
 use Rattle.listing.proofs.printing.print_errors.Statement.{statement}
