@@ -1,7 +1,10 @@
 // The names of the events, written to standard output.
+ghost use Rattle.listing.specs.Named.{Named};
 
-// The name of the event kind k, 1 to 17. Another number has no name, and nothing is written. Answers whether the writing went well.
-pub fn print_name(k: u32) -> bool {
+// The name of the event kind k; 17 is all that is left for the last arm. Answers whether the writing went well.
+pub fn print_name(k: u32) -> bool
+    requires { ⌜ Named k ⌝ }
+{
     match k {
         1 => io::write_all(1, b"std_table_open"),
         2 => io::write_all(1, b"std_table_close"),
@@ -19,7 +22,6 @@ pub fn print_name(k: u32) -> bool {
         14 => io::write_all(1, b"whitespace"),
         15 => io::write_all(1, b"comment"),
         16 => io::write_all(1, b"newline"),
-        17 => io::write_all(1, b"error"),
-        _ => true,
+        _ => io::write_all(1, b"error"),
     }
 }

@@ -1,7 +1,8 @@
 // The lines of a listing, written to standard output.
 use crate::names::print_name;
 ghost use Prim.Native.Nat.{_+_, _*_, _≤_};
-ghost use lib.ListN.{length};
+ghost use lib.ListN.{getD, length};
+ghost use Rattle.listing.specs.Named.{AllNamed, Named};
 
 // A space and the number n.
 fn print_number(n: u32) {
@@ -28,6 +29,7 @@ pub fn print_head(events: usize, errors: usize) {
 // The event at word `at`: its name, start, end and encoding.
 fn print_event(words: &[u32], at: usize)
     requires { ⌜ at + 4 ≤ length (now words) ⌝ }
+    requires { ⌜ Named (getD (now words) at 0) ⌝ }
 {
     print_name(words[at]);
     print_number(words[at + 2]);
@@ -53,6 +55,7 @@ fn print_error(words: &[u32], at: usize)
 // The first `count` events.
 pub fn print_events(words: &[u32], count: usize)
     requires { ⌜ 4 * count ≤ length (now words) ⌝ }
+    requires { ⌜ AllNamed (now words) count ⌝ }
 {
     let mut i: usize = 0;
     while i < count {

@@ -28,7 +28,7 @@ slice-aggregate-print-events : tie.Need-slice-aggregate-print-events
 slice-aggregate-print-events c = search needs
 
 print-events-requires : tie.Need-print-events-requires
-print-events-requires c κs = (within _ _ _ _ _ _ _ _ ((c .before .before .before .before .before .parse-document) .ensures) ((c .before .before .before .before .before .parse-document) .kept .1 .1 .0) ((c .before .before .before .before .before .parse-document) .kept .1 .1 .1 .0) (omega (arith, (c .before .before .if1) .left))) .0
+print-events-requires c κs = ((within _ _ _ _ _ _ _ _ ((c .before .before .before .before .before .parse-document) .ensures) ((c .before .before .before .before .before .parse-document) .kept .1 .1 .0) ((c .before .before .before .before .before .parse-document) .kept .1 .1 .1 .0) (omega (arith, (c .before .before .if1) .left))) .0, (within _ _ _ _ _ _ _ _ ((c .before .before .before .before .before .parse-document) .ensures) ((c .before .before .before .before .before .parse-document) .kept .1 .1 .0) ((c .before .before .before .before .before .parse-document) .kept .1 .1 .1 .0) (omega (arith, (c .before .before .if1) .left))) .2)
 
 slice-aggregate-print-errors : tie.Need-slice-aggregate-print-errors
 slice-aggregate-print-errors c = search needs

@@ -1,5 +1,6 @@
--- Each entry lies within the words: i is below the count.
+-- Each event lies within the words and is named: i is below the count.
 -- Made by ./proofs from Proof.tmpl: change that.
+use native.Mathlib.Omega.{arith}
 use Prim.Native.Nat.{_-_}
 use borrow.Author.Needs.{needs}
 use Rattle.listing.proofs.printing.print_events.Statement.{statement}
@@ -18,7 +19,7 @@ mul-print-event : tie.Need-mul-print-event Inv-loop μ-loop
 mul-print-event c = search needs
 
 print-event-requires : tie.Need-print-event-requires Inv-loop μ-loop
-print-event-requires c κs = search needs
+print-event-requires c κs = (omega (arith, (c .before .before .before .pre) .0), (c .before .before .before .pre) .1 _ ((c .loop-test) .taken))
 
 add-i : tie.Need-add-i Inv-loop μ-loop
 add-i c = search needs
