@@ -1,0 +1,41 @@
+// The listing program: reads token records from standard input and prints what the document entry gives for them at base 0, an
+// event or an error a line. More than 3,072 bytes print `input too long`, a refusal prints `refused N place P`.
+mod names;
+mod printing;
+
+use crate::printing::print_errors;
+use crate::printing::print_events;
+use crate::printing::print_head;
+use crate::printing::print_refusal;
+use grammar::entries::parse_document;
+
+// The most bytes that are listed: 512 records.
+const MOST: usize = 3072;
+
+// Lists the records s, with room for 1,600 events and 512 errors.
+fn list(s: &[u8]) {
+    let mut events = [0u32; 6400];
+    let mut errors = [0u32; 3072];
+    let answer = parse_document(s, 0, &mut events, &mut errors);
+    let refusal = answer.refusal;
+    if refusal != 0 {
+        print_refusal(refusal, answer.place);
+        return;
+    }
+    let event_count = answer.events;
+    let error_count = answer.errors;
+    print_head(event_count, error_count);
+    print_events(&events, event_count);
+    print_errors(&errors, error_count);
+}
+
+// One byte more than the most is asked for, so that longer input shows.
+fn main() {
+    let mut input = [0u8; 3073];
+    let n = io::read_full(0, &mut input);
+    if n > MOST {
+        io::write_all(1, b"input too long\n");
+        return;
+    }
+    list(&input[..n]);
+}
