@@ -6,6 +6,7 @@
 #include <stdio.h>
 #include <stdlib.h>
 #include <string.h>
+#include <unistd.h>
 
 #include "../include/deckmarten.h"
 
@@ -13,6 +14,8 @@
 #define UNTOUCHED 0xA5C3F00Du
 /* Words on each side of a buffer that must stay as they are. */
 #define BORDER 8
+/* Bytes that are read at a time. */
+#define CHUNK (1 << 20)
 
 struct frame {
     uint32_t entry, base, bytes, event_room, error_room;
@@ -31,7 +34,8 @@ struct room {
     size_t size;
 };
 
-static struct room records, expected_events, expected_errors, event_room, error_room;
+static struct room input, event_room, error_room;
+static size_t start, end; /* of what was read into `input` and not yet taken */
 static uint64_t cases, refused[9];
 
 static _Noreturn void broken(const char *what) {
@@ -39,31 +43,36 @@ static _Noreturn void broken(const char *what) {
     exit(2);
 }
 
-static void *grown(struct room *room, size_t size) {
-    if (room->size < size + 64) {
-        free(room->at);
-        room->size = 2 * size + 64;
-        room->at = malloc(room->size);
-        if (!room->at) broken("no memory");
+static void grow(struct room *room, size_t size) {
+    if (room->size >= size) return;
+    room->size = 2 * size;
+    room->at = realloc(room->at, room->size);
+    if (!room->at) broken("no memory");
+}
+
+/* The next so many bytes of the input. They stay where they are until the next call. */
+static const void *take(size_t size) {
+    if (end - start < size) {
+        grow(&input, size > CHUNK ? size : CHUNK);
+        memmove(input.at, input.at + start, end - start);
+        end -= start;
+        start = 0;
     }
-    return room->at;
+    while (end - start < size) {
+        ssize_t got = read(0, input.at + end, input.size - end);
+        if (got <= 0) broken("the frames end too early");
+        end += (size_t)got;
+    }
+    start += size;
+    return input.at + start - size;
 }
 
-static void *take(struct room *room, size_t size) {
-    void *at = grown(room, size);
-    if (fread(at, 1, size, stdin) != size) broken("the frames end too early");
-    return at;
-}
-
-static uint32_t word(void) {
-    uint32_t value;
-    if (fread(&value, 4, 1, stdin) != 1) broken("the frames end too early");
-    return value;
-}
+static uint32_t word(void) { return *(const uint32_t *)take(4); }
 
 /* A buffer of so many words between its borders, all untouched. */
 static uint32_t *fresh(struct room *room, size_t words) {
-    uint32_t *at = grown(room, 4 * (words + 2 * BORDER));
+    grow(room, 4 * (words + 2 * BORDER));
+    uint32_t *at = (uint32_t *)room->at;
     for (size_t i = 0; i < words + 2 * BORDER; i++) at[i] = UNTOUCHED;
     return at + BORDER;
 }
@@ -88,15 +97,17 @@ static void print_words(const uint32_t *words, size_t count) {
     }
 }
 
-static _Noreturn void differs(const struct frame *f, struct deckmarten_answer a, const uint32_t *events, const uint32_t *errors) {
+/* Prints the case, what the library gave and what was expected. */
+static _Noreturn void differs(const struct frame *f, const uint8_t *bytes, const uint32_t *wanted, struct deckmarten_answer a,
+                              const uint32_t *events, const uint32_t *errors) {
     printf("differs %" PRIu64 " %s %u %u %u x:", cases, names[f->entry], f->base, f->event_room, f->error_room);
-    for (size_t i = 0; i < f->bytes; i++) printf("%02x", records.at[i]);
+    for (size_t i = 0; i < f->bytes; i++) printf("%02x", bytes[i]);
     printf("\nlibrary:     %u %zu %zu %zu", a.refusal, a.place, a.events, a.errors);
     print_words(events, f->event_room);
     print_words(errors, f->error_room);
     printf("\ndocument.rs: %u %u %u %u", f->refusal, f->place, f->events, f->errors);
-    print_words((uint32_t *)expected_events.at, f->event_words);
-    print_words((uint32_t *)expected_errors.at, f->error_words);
+    print_words(wanted, f->event_words);
+    print_words(wanted + f->event_words, f->error_words);
     printf("\n");
     fflush(stdout);
     exit(1);
@@ -104,27 +115,28 @@ static _Noreturn void differs(const struct frame *f, struct deckmarten_answer a,
 
 static void check_case(void) {
     struct frame f;
-    if (fread(&f, sizeof f, 1, stdin) != 1) broken("the frames end too early");
+    memcpy(&f, take(sizeof f), sizeof f);
     if (f.entry > 3 || f.refusal > 8 || f.event_words > f.event_room || f.error_words > f.error_room) broken("a wrong frame");
-    const uint8_t *bytes = take(&records, (f.bytes + 3) / 4 * (size_t)4);
-    const uint32_t *wanted_events = take(&expected_events, 4 * (size_t)f.event_words);
-    const uint32_t *wanted_errors = take(&expected_errors, 4 * (size_t)f.error_words);
+    size_t whole = ((size_t)f.bytes + 3) / 4 * 4;
+    const uint8_t *bytes = take(whole + 4 * ((size_t)f.event_words + f.error_words));
+    const uint32_t *wanted = (const uint32_t *)(bytes + whole);
     uint32_t *events = fresh(&event_room, f.event_room), *errors = fresh(&error_room, f.error_room);
     struct deckmarten_answer a = entries[f.entry](bytes, f.bytes, f.base, events, f.event_room, errors, f.error_room);
     if (a.refusal != f.refusal || a.place != f.place || a.events != f.events || a.errors != f.errors ||
-        !holds(events, f.event_room, wanted_events, f.event_words) || !holds(errors, f.error_room, wanted_errors, f.error_words))
-        differs(&f, a, events, errors);
+        !holds(events, f.event_room, wanted, f.event_words) ||
+        !holds(errors, f.error_room, wanted + f.event_words, f.error_words))
+        differs(&f, bytes, wanted, a, events, errors);
     cases++;
     refused[f.refusal]++;
 }
 
 static void show_note(void) {
     uint32_t length = word();
-    const char *text = take(&records, (length + 3) / 4 * (size_t)4);
+    const char *text = take(((size_t)length + 3) / 4 * 4);
     fprintf(stderr, "  %.*s: %" PRIu64 " compared so far\n", (int)length, text, cases);
 }
 
-static int end(void) {
+static int finish(void) {
     uint64_t low = word(), sent = low | (uint64_t)word() << 32;
     if (sent != cases) broken("another number of lists was sent");
     printf("same %" PRIu64, cases);
@@ -134,10 +146,9 @@ static int end(void) {
 }
 
 int main(void) {
-    setvbuf(stdin, NULL, _IOFBF, 1 << 20);
     for (;;) {
         switch (word()) {
-        case 0: return end();
+        case 0: return finish();
         case 1: check_case(); break;
         case 2: show_note(); break;
         default: broken("a frame of no known sort");
