@@ -37,6 +37,7 @@ struct room {
 static struct room input, event_room, error_room;
 static size_t start, end; /* of what was read into `input` and not yet taken */
 static uint64_t cases, refused[9];
+static uint32_t seen_events, seen_messages; /* a bit for each kind of event and each message that occurred */
 
 static _Noreturn void broken(const char *what) {
     fprintf(stderr, "checker: %s\n", what);
@@ -126,6 +127,8 @@ static void check_case(void) {
         !holds(events, f.event_room, wanted, f.event_words) ||
         !holds(errors, f.error_room, wanted + f.event_words, f.error_words))
         differs(&f, bytes, wanted, a, events, errors);
+    for (size_t i = 0; i < f.event_words; i += 4) seen_events |= 1u << wanted[i] % 32;
+    for (size_t i = 0; i < f.error_words; i += 6) seen_messages |= 1u << wanted[f.event_words + i] % 32;
     cases++;
     refused[f.refusal]++;
 }
@@ -139,7 +142,7 @@ static void show_note(void) {
 static int finish(void) {
     uint64_t low = word(), sent = low | (uint64_t)word() << 32;
     if (sent != cases) broken("another number of lists was sent");
-    printf("same %" PRIu64, cases);
+    printf("same %" PRIu64 " %u %u", cases, seen_events, seen_messages);
     for (int i = 0; i < 9; i++) printf(" %" PRIu64, refused[i]);
     printf("\n");
     return 0;
