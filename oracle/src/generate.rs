@@ -2,6 +2,7 @@
 
 use std::fmt::Write as _;
 
+use crate::batch::Case;
 use crate::prng::Prng;
 use crate::records::from_pairs;
 use crate::tomlish;
@@ -33,8 +34,14 @@ const FLAVOURS: [[usize; 16]; 6] = [
     [1, 3, 1, 2, 2, 1, 1, 6, 12, 8, 1, 1, 0, 0, 6, 1],
 ];
 
-/// One case as a line of batch input; without an entry, one is drawn.
-pub fn case(prng: &mut Prng, style: Style, entry: Option<Entry>, most: usize) -> String {
+/// A case, with its tokens unless it is malformed.
+pub struct Made {
+    pub case: Case,
+    pairs: Option<Vec<Pair>>,
+}
+
+/// One case; without an entry, one is drawn.
+pub fn make(prng: &mut Prng, style: Style, entry: Option<Entry>, most: usize) -> Made {
     let entry = entry.unwrap_or_else(|| prng.pick(&ENTRIES).1);
     let pairs = match style {
         Style::Random | Style::Malformed => random(prng, most),
@@ -42,20 +49,42 @@ pub fn case(prng: &mut Prng, style: Style, entry: Option<Entry>, most: usize) ->
         Style::Valid => tomlish::valid(prng, entry, most),
     };
     let tight = style != Style::Valid;
-    let events = room(prng, 16 * (pairs.len() + 2), tight);
-    let errors = room(prng, 18 * (pairs.len() + 2), tight);
+    let event_words = room(prng, 16 * (pairs.len() + 2), tight);
+    let error_words = room(prng, 18 * (pairs.len() + 2), tight);
     let base = if style == Style::Valid {
         0
     } else {
         base(prng, &pairs)
     };
-    let mut line = format!("{} {base} {events} {errors}", entry.name());
-    if style == Style::Malformed {
-        malformed(prng, &mut line, &pairs);
+    let (bytes, pairs) = if style == Style::Malformed {
+        (malformed(prng, &pairs), None)
     } else {
+        (from_pairs(&pairs), Some(pairs))
+    };
+    let case = Case {
+        entry,
+        base,
+        event_words,
+        error_words,
+        bytes,
+    };
+    Made { case, pairs }
+}
+
+/// One case as a line of batch input; without an entry, one is drawn.
+pub fn case(prng: &mut Prng, style: Style, entry: Option<Entry>, most: usize) -> String {
+    let Made { case, pairs } = make(prng, style, entry, most);
+    let rooms = format!("{} {}", case.event_words, case.error_words);
+    let mut line = format!("{} {} {rooms}", case.entry.name(), case.base);
+    if let Some(pairs) = pairs {
         pairs.iter().for_each(|(kind, length)| {
             let _ = write!(line, " {kind}:{length}");
         });
+    } else {
+        line.push_str(" x:");
+        for byte in case.bytes {
+            let _ = write!(line, "{byte:02x}");
+        }
     }
     line
 }
@@ -117,8 +146,8 @@ fn base(prng: &mut Prng, pairs: &[Pair]) -> u32 {
     }
 }
 
-/// Appends the list with a wrong kind, a wrong length or a wrong number of bytes.
-fn malformed(prng: &mut Prng, line: &mut String, pairs: &[Pair]) {
+/// The list with a wrong kind, a wrong length or a wrong number of bytes.
+fn malformed(prng: &mut Prng, pairs: &[Pair]) -> Vec<u8> {
     let mut pairs = pairs.to_vec();
     for _ in 0..1 + prng.below(2) {
         let place = prng.below(pairs.len() + 1);
@@ -136,8 +165,5 @@ fn malformed(prng: &mut Prng, line: &mut String, pairs: &[Pair]) {
     if prng.one_in(3) {
         bytes.truncate(prng.below(bytes.len() + 1));
     }
-    line.push_str(" x:");
-    for byte in bytes {
-        let _ = write!(line, "{byte:02x}");
-    }
+    bytes
 }

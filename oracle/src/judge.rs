@@ -62,15 +62,46 @@ pub fn judge_compared(
     events: &mut [u32],
     errors: &mut [u32],
 ) -> Result<Answer, String> {
+    Ok(judged_compared(entry, base, bytes)?.answer(events, errors))
+}
+
+/// What these records give before any room is known.
+pub enum Judged {
+    /// A refusal among 1 to 5.
+    Early(records::Refusal),
+    /// The lists, and the record of refusal 6 if that is given.
+    Walked(Lists, Option<usize>),
+}
+
+impl Judged {
+    /// How many events and errors there are.
+    pub fn counts(&self) -> (usize, usize) {
+        match self {
+            Judged::Early(_) => (0, 0),
+            Judged::Walked(lists, _) => (lists.events.len(), lists.errors.len()),
+        }
+    }
+
+    /// The answer with buffers of this size, to which what fits is written.
+    pub fn answer(&self, events: &mut [u32], errors: &mut [u32]) -> Answer {
+        match self {
+            Judged::Early(refusal) => early(*refusal),
+            Judged::Walked(lists, stop) => write(lists, *stop, events, errors),
+        }
+    }
+}
+
+/// As [`judge_compared`], for any number of rooms.
+pub fn judged_compared(entry: Entry, base: u32, bytes: &[u8]) -> Result<Judged, String> {
     let tokens = match records::tokens(base, bytes) {
         Ok(tokens) => tokens,
-        Err(refusal) => return Ok(early(refusal)),
+        Err(refusal) => return Ok(Judged::Early(refusal)),
     };
     let (counted, stop) = walk::counted(entry, &tokens, LEVELS);
     let unchanged = walk::unchanged(entry, &tokens);
     compare(&tokens, &counted, stop, &unchanged)?;
-    let lists = if stop.is_some() { &counted } else { &unchanged };
-    Ok(write(lists, stop, events, errors))
+    let lists = if stop.is_some() { counted } else { unchanged };
+    Ok(Judged::Walked(lists, stop))
 }
 
 /// How the counted copy's lists differ from the original's, if they do.

@@ -11,6 +11,7 @@ extern crate self as winnow;
 
 pub mod batch;
 pub mod decoder;
+pub mod frame;
 pub mod generate;
 pub mod lexer;
 pub mod listing;
@@ -33,7 +34,9 @@ pub use error::ParseError;
 pub use judge::judge;
 pub use judge::judge_compared;
 pub use judge::judge_with_levels;
+pub use judge::judged_compared;
 pub use judge::Answer;
+pub use judge::Judged;
 pub use judge::LEVELS;
 pub use span::Span;
 pub use walk::Entry;

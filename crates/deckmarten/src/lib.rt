@@ -1,0 +1,63 @@
+// The four entries for programs in C and Rust. A slice passes as a pointer and a length, the answer as a C structure.
+pub mod answer;
+
+use crate::answer::ExportedAnswer;
+use crate::answer::exported;
+use grammar::entries::parse_document;
+use grammar::entries::parse_key;
+use grammar::entries::parse_simple_key;
+use grammar::entries::parse_value;
+ghost use Rattle.rules.specs.Entries.{documentEntry, keyEntry, simpleKeyEntry, valueEntry};
+ghost use Rattle.deckmarten.specs.Exported.{Exports};
+
+#[no_mangle]
+pub extern "C" fn deckmarten_parse_document(
+    s: &[u8],
+    base: u32,
+    events: &mut [u32],
+    errors: &mut [u32],
+) -> ExportedAnswer
+    ensures { λ r. ⌜ Exports documentEntry (now (s .entry)) base (now (events .entry)) (now (errors .entry)) (now (events .exit)) (now (errors .exit)) r ⌝ }
+{
+    let r = parse_document(s, base, events, errors);
+    exported(r)
+}
+
+#[no_mangle]
+pub extern "C" fn deckmarten_parse_key(
+    s: &[u8],
+    base: u32,
+    events: &mut [u32],
+    errors: &mut [u32],
+) -> ExportedAnswer
+    ensures { λ r. ⌜ Exports keyEntry (now (s .entry)) base (now (events .entry)) (now (errors .entry)) (now (events .exit)) (now (errors .exit)) r ⌝ }
+{
+    let r = parse_key(s, base, events, errors);
+    exported(r)
+}
+
+#[no_mangle]
+pub extern "C" fn deckmarten_parse_simple_key(
+    s: &[u8],
+    base: u32,
+    events: &mut [u32],
+    errors: &mut [u32],
+) -> ExportedAnswer
+    ensures { λ r. ⌜ Exports simpleKeyEntry (now (s .entry)) base (now (events .entry)) (now (errors .entry)) (now (events .exit)) (now (errors .exit)) r ⌝ }
+{
+    let r = parse_simple_key(s, base, events, errors);
+    exported(r)
+}
+
+#[no_mangle]
+pub extern "C" fn deckmarten_parse_value(
+    s: &[u8],
+    base: u32,
+    events: &mut [u32],
+    errors: &mut [u32],
+) -> ExportedAnswer
+    ensures { λ r. ⌜ Exports valueEntry (now (s .entry)) base (now (events .entry)) (now (errors .entry)) (now (events .exit)) (now (errors .exit)) r ⌝ }
+{
+    let r = parse_value(s, base, events, errors);
+    exported(r)
+}

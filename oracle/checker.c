@@ -1,0 +1,160 @@
+/* The checker of ./differ: reads frames from its input (src/frame.rs says what they are), calls the library on each list, and compares
+ * the answer and every word of both buffers with what the oracle gave: document.rs compiled unchanged over stand-ins for the files
+ * that are not here. Stops at the first difference and prints it. Ends with 0 if nothing differs, 1 if something does, 2 if the
+ * frames are not whole. */
+#include <inttypes.h>
+#include <stdio.h>
+#include <stdlib.h>
+#include <string.h>
+#include <unistd.h>
+
+#include "../include/deckmarten.h"
+
+/* What the buffers hold beforehand. No word that is written can be it, since none is above 16,777,216. */
+#define UNTOUCHED 0xA5C3F00Du
+/* Words on each side of a buffer that must stay as they are. */
+#define BORDER 8
+/* Bytes that are read at a time. */
+#define CHUNK (1 << 20)
+
+struct frame {
+    uint32_t entry, base, bytes, event_room, error_room;
+    uint32_t refusal, place, events, errors;
+    uint32_t event_words, error_words;
+};
+
+typedef struct deckmarten_answer parse(const uint8_t *, size_t, uint32_t, uint32_t *, size_t, uint32_t *, size_t);
+
+static parse *const entries[4] = {deckmarten_parse_document, deckmarten_parse_key, deckmarten_parse_simple_key, deckmarten_parse_value};
+static const char *const names[4] = {"document", "key", "simple_key", "value"};
+
+/* A piece of memory that grows as it must. */
+struct room {
+    unsigned char *at;
+    size_t size;
+};
+
+static struct room input, event_room, error_room;
+static size_t start, end; /* of what was read into `input` and not yet taken */
+static uint64_t cases, refused[9];
+static uint32_t seen_events, seen_messages; /* a bit for each kind of event and each message that occurred */
+
+static _Noreturn void broken(const char *what) {
+    fprintf(stderr, "checker: %s\n", what);
+    exit(2);
+}
+
+static void grow(struct room *room, size_t size) {
+    if (room->size >= size) return;
+    room->size = 2 * size;
+    room->at = realloc(room->at, room->size);
+    if (!room->at) broken("no memory");
+}
+
+/* The next so many bytes of the input. They stay where they are until the next call. */
+static const void *take(size_t size) {
+    if (end - start < size) {
+        grow(&input, size > CHUNK ? size : CHUNK);
+        memmove(input.at, input.at + start, end - start);
+        end -= start;
+        start = 0;
+    }
+    while (end - start < size) {
+        ssize_t got = read(0, input.at + end, input.size - end);
+        if (got <= 0) broken("the frames end too early");
+        end += (size_t)got;
+    }
+    start += size;
+    return input.at + start - size;
+}
+
+static uint32_t word(void) { return *(const uint32_t *)take(4); }
+
+/* A buffer of so many words between its borders, all untouched. */
+static uint32_t *fresh(struct room *room, size_t words) {
+    grow(room, 4 * (words + 2 * BORDER));
+    uint32_t *at = (uint32_t *)room->at;
+    for (size_t i = 0; i < words + 2 * BORDER; i++) at[i] = UNTOUCHED;
+    return at + BORDER;
+}
+
+/* Whether the buffer holds the expected words, and all others are as they were, those of the borders too. */
+static int holds(const uint32_t *buffer, size_t words, const uint32_t *expected, size_t written) {
+    if (memcmp(buffer, expected, 4 * written)) return 0;
+    for (size_t i = written; i < words + BORDER; i++)
+        if (buffer[i] != UNTOUCHED) return 0;
+    for (size_t i = 1; i <= BORDER; i++)
+        if (*(buffer - i) != UNTOUCHED) return 0;
+    return 1;
+}
+
+static void print_words(const uint32_t *words, size_t count) {
+    printf(" |");
+    for (size_t i = 0; i < count; i++) {
+        if (words[i] == UNTOUCHED)
+            printf(" -");
+        else
+            printf(" %" PRIu32, words[i]);
+    }
+}
+
+/* Prints the case, what the library gave and what was expected. */
+static _Noreturn void differs(const struct frame *f, const uint8_t *bytes, const uint32_t *wanted, struct deckmarten_answer a,
+                              const uint32_t *events, const uint32_t *errors) {
+    printf("differs %" PRIu64 " %s %u %u %u x:", cases, names[f->entry], f->base, f->event_room, f->error_room);
+    for (size_t i = 0; i < f->bytes; i++) printf("%02x", bytes[i]);
+    printf("\nlibrary:     %u %zu %zu %zu", a.refusal, a.place, a.events, a.errors);
+    print_words(events, f->event_room);
+    print_words(errors, f->error_room);
+    printf("\ndocument.rs: %u %u %u %u", f->refusal, f->place, f->events, f->errors);
+    print_words(wanted, f->event_words);
+    print_words(wanted + f->event_words, f->error_words);
+    printf("\n");
+    fflush(stdout);
+    exit(1);
+}
+
+static void check_case(void) {
+    struct frame f;
+    memcpy(&f, take(sizeof f), sizeof f);
+    if (f.entry > 3 || f.refusal > 8 || f.event_words > f.event_room || f.error_words > f.error_room) broken("a wrong frame");
+    size_t whole = ((size_t)f.bytes + 3) / 4 * 4;
+    const uint8_t *bytes = take(whole + 4 * ((size_t)f.event_words + f.error_words));
+    const uint32_t *wanted = (const uint32_t *)(bytes + whole);
+    uint32_t *events = fresh(&event_room, f.event_room), *errors = fresh(&error_room, f.error_room);
+    struct deckmarten_answer a = entries[f.entry](bytes, f.bytes, f.base, events, f.event_room, errors, f.error_room);
+    if (a.refusal != f.refusal || a.place != f.place || a.events != f.events || a.errors != f.errors ||
+        !holds(events, f.event_room, wanted, f.event_words) ||
+        !holds(errors, f.error_room, wanted + f.event_words, f.error_words))
+        differs(&f, bytes, wanted, a, events, errors);
+    for (size_t i = 0; i < f.event_words; i += 4) seen_events |= 1u << wanted[i] % 32;
+    for (size_t i = 0; i < f.error_words; i += 6) seen_messages |= 1u << wanted[f.event_words + i] % 32;
+    cases++;
+    refused[f.refusal]++;
+}
+
+static void show_note(void) {
+    uint32_t length = word();
+    const char *text = take(((size_t)length + 3) / 4 * 4);
+    fprintf(stderr, "  %.*s: %" PRIu64 " compared so far\n", (int)length, text, cases);
+}
+
+static int finish(void) {
+    uint64_t low = word(), sent = low | (uint64_t)word() << 32;
+    if (sent != cases) broken("another number of lists was sent");
+    printf("same %" PRIu64 " %u %u", cases, seen_events, seen_messages);
+    for (int i = 0; i < 9; i++) printf(" %" PRIu64, refused[i]);
+    printf("\n");
+    return 0;
+}
+
+int main(void) {
+    for (;;) {
+        switch (word()) {
+        case 0: return finish();
+        case 1: check_case(); break;
+        case 2: show_note(); break;
+        default: broken("a frame of no known sort");
+        }
+    }
+}
