@@ -116,7 +116,8 @@ pub fn room(which: usize, needed: usize, spare: usize) -> usize {
 /// Rooms for events and errors with words to spare, and then others that go by `turn`.
 pub fn ample_and_another(turn: u64, events: usize, errors: usize) -> [(usize, usize); 2] {
     let (first, second) = ((turn % 4) as usize, (turn / 4 % 4) as usize);
-    [(3, 3), (first, second)].map(|(first, second)| (room(first, events, 5), room(second, errors, 7)))
+    [(3, 3), (first, second)]
+        .map(|(first, second)| (room(first, events, 5), room(second, errors, 7)))
 }
 
 /// The length if the kind may have it, else the one that it must have.

@@ -153,12 +153,7 @@ fn at_the_limits(feed: &mut Feed, prng: &mut Prng) -> Result<(), String> {
 }
 
 /// The list at all four entries, with room drawn by what it needs there.
-fn put_at_all(
-    feed: &mut Feed,
-    base: u32,
-    bytes: Vec<u8>,
-    prng: &mut Prng,
-) -> Result<(), String> {
+fn put_at_all(feed: &mut Feed, base: u32, bytes: Vec<u8>, prng: &mut Prng) -> Result<(), String> {
     for (_, entry) in ENTRIES {
         let mut drawn = |needed: usize, size: usize| match prng.below(16) {
             9 => prng.below(needed + 1),

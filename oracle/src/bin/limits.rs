@@ -28,7 +28,13 @@ fn main() -> ExitCode {
 
 fn print() -> Result<(), String> {
     for depth in [64, 65] {
-        let runs = [(ATOM, 1), (EQUALS, 1), (LEFT, depth), (RIGHT, depth), (EOF, 1)];
+        let runs = [
+            (ATOM, 1),
+            (EQUALS, 1),
+            (LEFT, depth),
+            (RIGHT, depth),
+            (EOF, 1),
+        ];
         show(&format!("{depth} nested arrays"), &runs, 0, AMPLE)?;
     }
     for count in [65_536, 65_537] {
@@ -53,9 +59,15 @@ fn show(name: &str, runs: &[(u16, usize)], base: u32, room: usize) -> Result<(),
     let (mut events, mut errors) = (vec![0; room], vec![0; 60]);
     let bytes = records::from_pairs(&pairs);
     let a = oracle::judge_compared(Entry::Document, base, &bytes, &mut events, &mut errors)?;
-    print!("{name}: refusal {} place {} events {} errors {}", a.refusal, a.place, a.events, a.errors);
-    match events.chunks_exact(4).take(a.events).last() {
-        Some(last) => println!(", last event {} {} {} {}", last[0], last[1], last[2], last[3]),
+    print!(
+        "{name}: refusal {} place {} events {} errors {}",
+        a.refusal, a.place, a.events, a.errors
+    );
+    match events.chunks_exact(4).take(a.events).next_back() {
+        Some(last) => println!(
+            ", last event {} {} {} {}",
+            last[0], last[1], last[2], last[3]
+        ),
         None => println!(", no event"),
     }
     Ok(())

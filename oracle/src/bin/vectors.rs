@@ -51,13 +51,21 @@ const BASES: [u32; 9] = [
     u32::MAX,
 ];
 /// Name, style, number and greatest length of the lists of each random class.
-const DRAWN: [(&str, Style, usize, usize); 5] = [
-    ("random lists", Style::Random, 800, 14),
+const DRAWN: [(&str, Style, usize, usize); 4] = [
+    ("random lists", Style::Random, 900, 16),
     ("lists after the grammar", Style::Valid, 150, 20),
-    ("damaged lists", Style::Damaged, 700, 20),
-    ("wrong records", Style::Malformed, 300, 9),
-    ("long lists", Style::Damaged, 8, 500),
+    ("damaged lists", Style::Damaged, 850, 20),
+    ("wrong records", Style::Malformed, 350, 9),
 ];
+/// Styles of the long lists, and how many bytes they have at least.
+const LONG: [Style; 5] = [
+    Style::Valid,
+    Style::Damaged,
+    Style::Damaged,
+    Style::Random,
+    Style::Random,
+];
+const LONG_BYTES: usize = 6 * 300;
 
 fn main() -> ExitCode {
     let words: Vec<String> = std::env::args().skip(1).collect();
@@ -86,6 +94,7 @@ fn make(folder: &Path) -> Result<(), String> {
     for (name, style, count, most) in DRAWN {
         maker.class(name, |maker| drawn(maker, style, count, most))?;
     }
+    maker.class("long lists", long)?;
     maker.class("deep lists", deep)?;
     let all = maker.feed.cases();
     maker.feed.end()?;
@@ -186,6 +195,22 @@ fn drawn(maker: &mut Maker, style: Style, count: usize, most: usize) -> Result<(
     Ok(())
 }
 
+/// Lists of 300 to 600 records, each at all four entries.
+fn long(maker: &mut Maker) -> Result<(), String> {
+    let mut prng = Prng::new(1);
+    for style in LONG {
+        let mut made = || generate::make(&mut prng, style, Some(Entry::Document), 600).case;
+        let mut case = made();
+        while case.bytes.len() < LONG_BYTES {
+            case = made();
+        }
+        for (_, entry) in ENTRIES {
+            maker.put(Case::at(entry, case.base, case.bytes.clone()), &ROOMS[..1])?;
+        }
+    }
+    Ok(())
+}
+
 /// Arrays, inline tables and both in turn, about as deep as is allowed, closed or not: behind
 /// `x=` in a document, and as a value.
 fn deep(maker: &mut Maker) -> Result<(), String> {
@@ -213,7 +238,11 @@ fn nested(depth: usize, tables_of_three: usize, closed: bool) -> Vec<u16> {
     }
     kinds.push(15);
     if closed {
-        kinds.extend((0..depth).rev().map(|level| if is_table(level) { 7 } else { 5 }));
+        kinds.extend(
+            (0..depth)
+                .rev()
+                .map(|level| if is_table(level) { 7 } else { 5 }),
+        );
     }
     kinds.push(16);
     kinds
@@ -221,6 +250,8 @@ fn nested(depth: usize, tables_of_three: usize, closed: bool) -> Vec<u16> {
 
 /// Records of these kinds, as short as they may be.
 fn listed(kinds: &[u16]) -> Vec<u8> {
-    let pairs = kinds.iter().map(|kind| (*kind, feeding::right_length(*kind, 1)));
+    let pairs = kinds
+        .iter()
+        .map(|kind| (*kind, feeding::right_length(*kind, 1)));
     records::from_pairs(&pairs.collect::<Vec<_>>())
 }
