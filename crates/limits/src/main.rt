@@ -11,7 +11,8 @@ use crate::lists::RIGHT;
 use crate::lists::fill;
 use crate::lists::put;
 use crate::showing::show;
-ghost use Prim.Native.Nat.{_≤_};
+ghost use Prim.Native.Nat.{_*_, _≤_};
+ghost use lib.ListN.{length};
 
 // Words of room for 256 events.
 const AMPLE: usize = 1024;
@@ -33,16 +34,22 @@ fn nested_arrays(depth: usize)
 }
 
 // A key, an equals sign, and Atoms, which are one scalar, up to so many records.
-fn many_records(count: usize)
-    requires { ⌜ count ≤ 65537 ⌝ }
+fn show_records(list: &mut [u8], count: usize)
+    requires { ⌜ count * 6 ≤ length (now list) ⌝ }
 {
     io::print_decimal(1, count as u64);
     io::write_all(1, b" records");
-    let mut list = [0u8; 393222];
-    fill(&mut list, 0, count, ATOM);
-    put(&mut list, 1, EQUALS);
-    let size = 6 * count;
+    fill(list, 0, count, ATOM);
+    put(list, 1, EQUALS);
+    let size = count * 6;
     show(&list[0..size], 0, AMPLE);
+}
+
+fn many_records(count: usize)
+    requires { ⌜ count ≤ 65537 ⌝ }
+{
+    let mut list = [0u8; 393222];
+    show_records(&mut list, count);
 }
 
 // A pair, which has three events, in a buffer of so many words.

@@ -1,6 +1,6 @@
 // The replay program: replays the lists in the file vectors.bin on the four entries, and holds what comes to what the oracle answered:
 // the answer, the words that were written, and those that must stay untouched. Prints a line for each class of lists, with how many
-// there are and how many differ, and one for all. oracle/src/frame.rs says what the file has in it; oracle/vectors makes it.
+// there are and how many differ, and one for all. oracle/src/frame.rs says what the file has in it; oracle/expected makes it.
 mod comparing;
 mod frames;
 mod replay;
