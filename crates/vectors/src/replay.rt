@@ -13,7 +13,7 @@ use grammar::entries::parse_simple_key;
 use grammar::entries::parse_value;
 use rules::answer::Answer;
 
-// The entries are numbered as oracle/src/frame.rs says.
+// The entries are numbered as ENTRIES of oracle/src/walk.rs has them.
 fn parse(entry: u32, s: &[u8], base: u32, events: &mut [u32], errors: &mut [u32]) -> Answer {
     match entry {
         0 => parse_document(s, base, events, errors),
@@ -23,10 +23,10 @@ fn parse(entry: u32, s: &[u8], base: u32, events: &mut [u32], errors: &mut [u32]
     }
 }
 
-// What came of a list, if the list and both buffers are as long as the case wants them.
+// What came of a list; or the case is wrong, since there is no such entry, or the list or a buffer would be too long.
 enum Ran {
     Answered(Answer),
-    TooLong,
+    Wrong,
 }
 
 // The list is the first part of s, and the buffers are those of events and errors.
@@ -34,14 +34,17 @@ fn run(c: Case, s: &[u8], events: &mut [u32], errors: &mut [u32]) -> Ran {
     let size = c.bytes as usize;
     let event_room = c.event_room as usize;
     let error_room = c.error_room as usize;
+    if c.entry > 3 {
+        return Ran::Wrong;
+    }
     if size > s.len() {
-        return Ran::TooLong;
+        return Ran::Wrong;
     }
     if event_room > events.len() {
-        return Ran::TooLong;
+        return Ran::Wrong;
     }
     if error_room > errors.len() {
-        return Ran::TooLong;
+        return Ran::Wrong;
     }
     Ran::Answered(parse(
         c.entry,
