@@ -30,7 +30,7 @@ use oracle::Entry;
 
 type Feed = feeding::Feed<Stdout>;
 
-/// Random lists from one note to the next; each is compared four times.
+/// Lists from one note to the next; each is compared four or eight times.
 const NOTED: u64 = 250_000;
 /// How the random lists are made, in turn, and their greatest length.
 const STYLES: [(Style, usize); 16] = [
@@ -97,13 +97,20 @@ fn run(feed: &mut Feed, words: &[&str]) -> Result<(), String> {
 /// words to spare, and once with too little or exact room.
 fn all_lists(feed: &mut Feed, longest: u32) -> Result<(), String> {
     for length in 0..=longest {
-        for list in 0..16u64.pow(length) {
+        let lists = 16u64.pow(length);
+        for list in 0..lists {
             let bytes = records::from_pairs(&feeding::short_list(length, list));
             for (_, entry) in ENTRIES {
                 let case = Case::at(entry, 5 * (list % 2) as u32, bytes.clone());
                 feed.put_in_rooms(case, |events, errors| {
                     feeding::ample_and_another(list / 2, events, errors)
                 })?;
+            }
+            if (list + 1) % NOTED == 0 {
+                feed.note(&format!(
+                    "lists of {length} tokens, {} of {lists}",
+                    list + 1
+                ));
             }
         }
         feed.note(&format!("every list of {length} tokens"));
