@@ -1,24 +1,18 @@
 /* The lists of limits.c, with what the library must answer for each. */
-#include <stddef.h>
-#include <stdint.h>
-#include <string.h>
-
-#include "deckmarten.h"
+#include "notation.h"
 
 struct wanted {
     uint32_t refusal;
     size_t place, events, errors;
 };
 
-/* A list in a short notation: a head, a body that is repeated until the list has 65,536 records (none if it is empty), and a tail. The
- * characters . = , [ ] { } stand for themselves, a space for Whitespace, # for a Comment, \n for a Newline, ' and " for a literal
- * and a basic string, L and B for multi-line ones, $ for Eof and a for an Atom. Each token has one byte, but for Eof. */
+/* A list in the short notation: a head, a body that is repeated until the list has 65,536 records (not at all if it is empty), and a
+ * tail. */
 struct list {
     const char *name, *head, *body, *tail;
     struct wanted wanted[4]; /* at the entries document, key, simple_key, value */
 };
 
-#define KINDS ".=,[]{} #\n'\"LBa$" /* by their numbers, from 1 */
 #define FOUR(text) text text text text
 #define THIRTY_TWO(text) FOUR(text text text text text text text text)
 #define NESTED_OPEN THIRTY_TWO("[{a=")
@@ -72,20 +66,6 @@ static const struct list lists[] = {
 
 static size_t count_records(const struct list *list) {
     return *list->body ? DECKMARTEN_LIMIT_RECORDS : strlen(list->head) + strlen(list->tail);
-}
-
-/* Writes the record of a character, and answers the place after it. */
-static uint8_t *write_record(char character, uint8_t *record) {
-    uint8_t kind = (uint8_t)(strchr(KINDS, character) - KINDS + 1);
-    memset(record, 0, DECKMARTEN_SIZE_RECORD);
-    record[0] = kind != DECKMARTEN_KIND_EOF;
-    record[4] = kind;
-    return record + DECKMARTEN_SIZE_RECORD;
-}
-
-static uint8_t *write_text(const char *text, uint8_t *record) {
-    while (*text) record = write_record(*text++, record);
-    return record;
 }
 
 /* Writes the records of a list. */
