@@ -6,6 +6,7 @@ use crate::{Events, ParseErrors, Refusal};
 
 /// What a run answers, with the buffers that hold its events and errors.
 #[derive(Clone, Copy, Debug)]
+#[must_use]
 pub struct Answer<'b> {
     refusal: Option<Refusal>,
     place: usize,
@@ -71,6 +72,7 @@ impl<'b> Answer<'b> {
     /// A run whose buffers were too small is refused, so it is not quiet. To count errors is not enough: `[=` and a newline give none.
     /// Of a document with one Eof, which is last, and without adjacent Whitespace, quiet means that it fits the token grammar; [`fits`](crate::fits) asks
     /// all of that at once.
+    #[must_use]
     pub fn is_quiet(&self) -> bool {
         self.refusal.is_none() && self.error_count == 0 && self.events().all(|event| !event.span.is_empty())
     }

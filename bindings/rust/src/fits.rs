@@ -18,6 +18,7 @@ use crate::{parse_document, TokenKind};
 /// // without its Eof a list may have been cut
 /// assert!(!fits(&document(&[Atom, Equals, Atom, Newline]).as_bytes()[..24], 0));
 /// ```
+#[must_use]
 pub fn fits(records: &[u8], base: u32) -> bool {
     // a quiet run has at most one event a record, and no error; one that has more is refused, and so not quiet
     let count = (records.len() / RECORD_SIZE).min(MAX_RECORDS);
@@ -25,13 +26,16 @@ pub fn fits(records: &[u8], base: u32) -> bool {
     is_regular(records) && parse_document(records, base, &mut events, &mut []).is_quiet()
 }
 
-/// Whether the list has one Eof, as its last token, and no two Whitespace tokens in a row. A lexer's lists are to be so; [`fits`] says no to others.
+/// Whether the list has one Eof, as its last token, and no two Whitespace tokens in a row. A lexer's lists are to be so; [`fits`] says
+/// no to others.
+#[must_use]
 pub fn is_regular(records: &[u8]) -> bool {
-    let is = |record: &[u8], kind: TokenKind| record[4..] == [kind.number() as u8, 0];
-    let records: Vec<&[u8]> = records.chunks_exact(RECORD_SIZE).collect();
-    let Some((last, before)) = records.split_last() else {
-        return false;
-    };
-    let adjacent = records.windows(2).any(|pair| pair.iter().all(|record| is(record, TokenKind::Whitespace)));
-    is(last, TokenKind::Eof) && !before.iter().any(|record| is(record, TokenKind::Eof)) && !adjacent
+    let kinds =
+        records.chunks_exact(RECORD_SIZE).map(|record| TokenKind::from_number(u16::from_le_bytes([record[4], record[5]]).into()));
+    let (mut last, mut apart) = (None, true);
+    for kind in kinds {
+        apart &= last != Some(TokenKind::Eof) && (last, kind) != (Some(TokenKind::Whitespace), Some(TokenKind::Whitespace));
+        last = kind;
+    }
+    apart && last == Some(TokenKind::Eof)
 }

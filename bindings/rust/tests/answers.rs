@@ -77,6 +77,23 @@ fn a_room_serves_many_lists() {
 }
 
 #[test]
+fn threads_do_not_disturb_one_another() {
+    let texts: Vec<String> = (0..8).map(|number| "a=[1 \"]\n".repeat(100 * number)).collect();
+    let read = |text: &String| {
+        let mut room = Room::new();
+        let answer = room.parse(Entry::Document, records(text).as_bytes(), 0);
+        (answer.events().collect::<Vec<_>>(), answer.errors().collect::<Vec<_>>())
+    };
+    let alone: Vec<_> = texts.iter().map(read).collect();
+    let together: Vec<_> = std::thread::scope(|scope| {
+        let threads: Vec<_> = texts.iter().map(|text| scope.spawn(move || read(text))).collect();
+        threads.into_iter().map(|thread| thread.join().unwrap()).collect()
+    });
+    assert_eq!(alone, together);
+    assert_eq!(alone.iter().map(|read| read.1.len()).collect::<Vec<_>>(), [0, 100, 200, 300, 400, 500, 600, 700]);
+}
+
+#[test]
 fn numbers_go_both_ways() {
     macro_rules! both_ways {
         ($($name:ident $count:literal),+) => {$(
