@@ -2,7 +2,7 @@
 
 use crate::foreign::RawAnswer;
 use crate::limits::{ERROR_SIZE, EVENT_SIZE};
-use crate::{Events, ParseErrors, Refusal};
+use crate::{Event, ParseError, Refusal, Stored};
 
 /// What a run answers, with the buffers that hold its events and errors.
 #[derive(Clone, Copy, Debug)]
@@ -58,13 +58,13 @@ impl<'b> Answer<'b> {
     }
 
     /// The events, or the first of them if they do not all fit.
-    pub fn events(&self) -> Events<'b> {
-        Events::new(self.events)
+    pub fn events(&self) -> Stored<'b, Event> {
+        Stored::new(self.events, EVENT_SIZE, Event::read)
     }
 
     /// The errors, or the first of them if they do not all fit.
-    pub fn errors(&self) -> ParseErrors<'b> {
-        ParseErrors::new(self.errors)
+    pub fn errors(&self) -> Stored<'b, ParseError> {
+        Stored::new(self.errors, ERROR_SIZE, ParseError::read)
     }
 
     /// Whether the run was quiet: not refused, no error, and no event of empty span.

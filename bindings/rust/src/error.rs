@@ -1,10 +1,7 @@
 //! Errors: what is wrong with the text, and where.
 
 use std::fmt;
-use std::iter::FusedIterator;
-use std::slice::ChunksExact;
 
-use crate::limits::ERROR_SIZE;
 use crate::{Expected, Message, Span};
 
 /// A mistake in the text.
@@ -21,7 +18,7 @@ pub struct ParseError {
 }
 
 impl ParseError {
-    fn read(words: &[u32]) -> ParseError {
+    pub(crate) fn read(words: &[u32]) -> ParseError {
         ParseError {
             message: Message::from_number(words[0]).expect("an error has a message of 1 to 29"),
             expected: Expected::from_number(words[1]).expect("an error has an expected of 1 to 14"),
@@ -42,28 +39,3 @@ impl fmt::Display for ParseError {
 }
 
 impl std::error::Error for ParseError {}
-
-/// The errors that an answer's buffer holds, in order.
-#[derive(Clone, Debug)]
-pub struct ParseErrors<'b>(ChunksExact<'b, u32>);
-
-impl<'b> ParseErrors<'b> {
-    pub(crate) fn new(words: &'b [u32]) -> ParseErrors<'b> {
-        ParseErrors(words.chunks_exact(ERROR_SIZE))
-    }
-}
-
-impl Iterator for ParseErrors<'_> {
-    type Item = ParseError;
-
-    fn next(&mut self) -> Option<ParseError> {
-        self.0.next().map(ParseError::read)
-    }
-
-    fn size_hint(&self) -> (usize, Option<usize>) {
-        self.0.size_hint()
-    }
-}
-
-impl ExactSizeIterator for ParseErrors<'_> {}
-impl FusedIterator for ParseErrors<'_> {}

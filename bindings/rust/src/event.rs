@@ -1,10 +1,7 @@
 //! Events: what was read, in the order of the text.
 
 use std::fmt;
-use std::iter::FusedIterator;
-use std::slice::ChunksExact;
 
-use crate::limits::EVENT_SIZE;
 use crate::numbered::numbered;
 use crate::Span;
 
@@ -74,10 +71,13 @@ pub struct Event {
 }
 
 impl Event {
-    fn read(words: &[u32]) -> Event {
+    pub(crate) fn read(words: &[u32]) -> Event {
         Event {
             kind: EventKind::from_number(words[0]).expect("an event has a kind of 1 to 17"),
-            encoding: Encoding::from_number(words[1]),
+            encoding: match words[1] {
+                0 => None,
+                number => Some(Encoding::from_number(number).expect("an encoding is one of 0 to 4")),
+            },
             span: Span { start: words[2], end: words[3] },
         }
     }
@@ -88,28 +88,3 @@ impl fmt::Display for Event {
         write!(f, "{} at {}", self.kind, self.span)
     }
 }
-
-/// The events that an answer's buffer holds, in order.
-#[derive(Clone, Debug)]
-pub struct Events<'b>(pub(crate) ChunksExact<'b, u32>);
-
-impl<'b> Events<'b> {
-    pub(crate) fn new(words: &'b [u32]) -> Events<'b> {
-        Events(words.chunks_exact(EVENT_SIZE))
-    }
-}
-
-impl Iterator for Events<'_> {
-    type Item = Event;
-
-    fn next(&mut self) -> Option<Event> {
-        self.0.next().map(Event::read)
-    }
-
-    fn size_hint(&self) -> (usize, Option<usize>) {
-        self.0.size_hint()
-    }
-}
-
-impl ExactSizeIterator for Events<'_> {}
-impl FusedIterator for Events<'_> {}

@@ -3,7 +3,10 @@
 mod common;
 
 use common::records;
-use deckmarten::{parse_key, parse_simple_key, parse_value, Encoding, Entry, EventKind, Expected, Message, Room, Span};
+use deckmarten::TokenKind::{Atom, Comment, Eof, Equals, Newline, Whitespace};
+use deckmarten::{
+    parse_key, parse_simple_key, parse_value, Answer, Encoding, Entry, EventKind, Expected, Message, Records, Room, Span, Token,
+};
 
 #[test]
 fn several_mistakes_are_reported_with_their_places() {
@@ -26,23 +29,10 @@ fn several_mistakes_are_reported_with_their_places() {
 #[test]
 fn comments_and_whitespace_are_kept_with_their_text() {
     let text = "# a\n b = 1 # c\n";
-    let mut records = deckmarten::Records::new();
-    use deckmarten::{Token, TokenKind::*};
-    let lengths = [
-        (Comment, 3),
-        (Newline, 1),
-        (Whitespace, 1),
-        (Atom, 1),
-        (Whitespace, 1),
-        (Equals, 1),
-        (Whitespace, 1),
-        (Atom, 1),
-        (Whitespace, 1),
-        (Comment, 3),
-        (Newline, 1),
-        (Eof, 0),
-    ];
-    records.extend(lengths.map(|(kind, length)| Token::new(kind, length)));
+    let lengths =
+        [(Comment, 3), (Newline, 1), (Whitespace, 1), (Atom, 1), (Whitespace, 1), (Equals, 1), (Whitespace, 1), (Atom, 1)];
+    let lengths = lengths.into_iter().chain([(Whitespace, 1), (Comment, 3), (Newline, 1), (Eof, 0)]);
+    let records: Records = lengths.map(|(kind, length)| Token::new(kind, length)).collect();
     let mut room = Room::new();
     let answer = room.parse(Entry::Document, records.as_bytes(), 0);
     assert!(answer.is_quiet());
@@ -64,7 +54,7 @@ fn places_start_at_base() {
 #[test]
 fn keys_and_values_have_entries_of_their_own() {
     let (mut events, mut errors) = ([0; 40], [0; 60]);
-    let kinds = |answer: deckmarten::Answer| answer.events().map(|event| event.kind).collect::<Vec<_>>();
+    let kinds = |answer: Answer| answer.events().map(|event| event.kind).collect::<Vec<_>>();
     let key = parse_key(records("a.'").as_bytes(), 0, &mut events, &mut errors);
     assert!(key.is_quiet());
     assert_eq!(key.events().last().unwrap().encoding, Some(Encoding::LiteralString));
