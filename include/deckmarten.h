@@ -1,4 +1,4 @@
-/* libdeckmarten.a for C: the four entries, and a name for every number that goes in or comes out. docs/USING.md shows how to use
+/* libdeckmarten.a for C: the entries, and a name for every number that goes in or comes out. docs/USING.md shows how to use
  * it, docs/LAYOUT.md says what every byte of the records and every word of the buffers means. bindings/check-numbers holds the names
  * and numbers here to that page. */
 #ifndef DECKMARTEN_H
@@ -157,5 +157,16 @@ struct deckmarten_answer deckmarten_parse_simple_key(const uint8_t *records, siz
                                                      size_t event_words, uint32_t *errors, size_t error_words);
 struct deckmarten_answer deckmarten_parse_value(const uint8_t *records, size_t bytes, uint32_t base, uint32_t *events,
                                                 size_t event_words, uint32_t *errors, size_t error_words);
+
+/* A token as a structure. Its kind is to be one of enum deckmarten_kind. */
+struct deckmarten_token {
+    uint32_t length;
+    uint16_t kind;
+};
+
+/* A document whose tokens are structures. The answer and both buffers are those of deckmarten_parse_document for records of the same
+ * lengths and kinds; the same is owed. The records are made on the stack, which takes 384 KiB of it. */
+struct deckmarten_answer deckmarten_parse_tokens(const struct deckmarten_token *tokens, size_t count, uint32_t base, uint32_t *events,
+                                                 size_t event_words, uint32_t *errors, size_t error_words);
 
 #endif

@@ -1,7 +1,7 @@
 //! The four entries, over lent buffers.
 
 use crate::foreign;
-use crate::Answer;
+use crate::{Answer, Token};
 
 /// Where reading begins: what the list is taken to be.
 #[derive(Clone, Copy, Debug, PartialEq, Eq, Hash)]
@@ -58,4 +58,19 @@ pub fn parse_simple_key<'b>(records: &[u8], base: u32, events: &'b mut [u32], er
 /// Reads a value: [`Entry::parse`] of [`Entry::Value`].
 pub fn parse_value<'b>(records: &[u8], base: u32, events: &'b mut [u32], errors: &'b mut [u32]) -> Answer<'b> {
     Entry::Value.parse(records, base, events, errors)
+}
+
+/// Reads a document from tokens: what it answers and leaves is what [`parse_document`] does for their records. The library makes the
+/// records on the stack, which takes 384 KiB of it.
+///
+/// ```
+/// use deckmarten::{parse_tokens, Token, TokenKind::*};
+///
+/// let tokens = [Token::new(Atom, 4), Token::new(Equals, 1), Token::new(BasicString, 9), Token::new(Eof, 0)];
+/// let (mut events, mut errors) = ([0; 12], [0; 0]);
+/// assert!(parse_tokens(&tokens, 0, &mut events, &mut errors).is_quiet());
+/// ```
+pub fn parse_tokens<'b>(tokens: &[Token], base: u32, events: &'b mut [u32], errors: &'b mut [u32]) -> Answer<'b> {
+    let raw = foreign::call_with_tokens(tokens, base, events, errors);
+    Answer::new(raw, events, errors)
 }

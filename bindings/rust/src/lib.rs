@@ -40,7 +40,7 @@ mod stored;
 mod token;
 
 pub use answer::Answer;
-pub use entry::{parse_document, parse_key, parse_simple_key, parse_value, Entry};
+pub use entry::{parse_document, parse_key, parse_simple_key, parse_tokens, parse_value, Entry};
 pub use error::ParseError;
 pub use event::{Encoding, Event, EventKind};
 pub use expected::Expected;

@@ -5,6 +5,7 @@ use crate::numbered::numbered;
 
 numbered! {
     /// The kind of a token. `Display` prints what the token is.
+    #[repr(u16)]
     TokenKind {
         /// One byte.
         Dot = 1 => "`.`",
@@ -41,13 +42,14 @@ numbered! {
     }
 }
 
-/// A token: its kind, and how many bytes of the text it takes.
+/// A token: its kind, and how many bytes of the text it takes. In memory it is `struct deckmarten_token` of include/deckmarten.h.
 #[derive(Clone, Copy, Debug, PartialEq, Eq, Hash)]
+#[repr(C)]
 pub struct Token {
-    /// What it is.
-    pub kind: TokenKind,
     /// How many bytes it has: 0 for Eof, 1 for the kinds of one byte, at least 1 for the others.
     pub length: u32,
+    /// What it is.
+    pub kind: TokenKind,
 }
 
 impl Token {

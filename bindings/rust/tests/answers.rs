@@ -4,7 +4,7 @@ mod common;
 
 use common::records;
 use deckmarten::limits::{enough_error_words, enough_event_words, MAX_DEPTH, MAX_RECORDS};
-use deckmarten::{parse_document, Encoding, Entry, EventKind, Expected, Message, Refusal, Room, TokenKind};
+use deckmarten::{parse_document, parse_tokens, Encoding, Entry, EventKind, Expected, Message, Refusal, Room, TokenKind};
 
 /// Refusal, place and counts of the bytes as a document.
 fn answered(bytes: &[u8], base: u32) -> (Option<Refusal>, usize, usize, usize) {
@@ -74,6 +74,33 @@ fn a_room_serves_many_lists() {
         assert!(answer.events().eq(alone.events()) && answer.errors().eq(alone.errors()), "{text:?}");
         assert_eq!(answer.is_quiet(), !text.starts_with("[["));
     }
+}
+
+#[test]
+fn tokens_are_read_as_their_records() {
+    use deckmarten::{Records, Token};
+    let lists: [&[Token]; 5] = [
+        &[],
+        &[Token::new(TokenKind::Atom, 3), Token::new(TokenKind::Equals, 1), Token::new(TokenKind::MlBasicString, 70_000)],
+        &[
+            Token::new(TokenKind::LeftSquareBracket, 1),
+            Token::new(TokenKind::LeftSquareBracket, 1),
+            Token::new(TokenKind::Eof, 0),
+        ],
+        &[Token::new(TokenKind::Newline, 1), Token::new(TokenKind::Dot, 2)],
+        &vec![Token::new(TokenKind::Comment, 1); MAX_RECORDS + 1],
+    ];
+    let mut refusals = Vec::new();
+    for tokens in lists {
+        let records: Records = tokens.iter().copied().collect();
+        let (mut events, mut errors, mut other_events, mut other_errors) = ([7; 20], [7; 20], [7; 20], [7; 20]);
+        let answer = parse_tokens(tokens, 5, &mut events, &mut errors);
+        let other = parse_document(records.as_bytes(), 5, &mut other_events, &mut other_errors);
+        assert_eq!(format!("{answer:?}"), format!("{other:?}"));
+        refusals.push(answer.refusal());
+        assert_eq!((events, errors), (other_events, other_errors));
+    }
+    assert_eq!(refusals, [None, None, None, Some(Refusal::Length), Some(Refusal::Records)]);
 }
 
 #[test]
