@@ -1,0 +1,4 @@
+pub mod StructLaws
+pub mod Again
+pub mod OwnArray
+pub mod BigConstant
