@@ -2,3 +2,4 @@ pub mod StructLaws
 pub mod Again
 pub mod OwnArray
 pub mod BigConstant
+pub mod KeptLaws

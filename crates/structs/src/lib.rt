@@ -1,4 +1,6 @@
 // The document entry over a lent list of token structs: they are copied into records, and the byte form parses these.
+pub mod theorems;
+
 use grammar::entries::parse_document;
 use rules::answer::Answer;
 use token::check::MAX_RECORDS;
