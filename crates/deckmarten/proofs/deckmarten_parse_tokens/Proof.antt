@@ -25,7 +25,7 @@ use denote.Laws.{Is, shows}
 use denote.Plain.{uint-vals, uint-tells, uint-makes}
 use denote.Builtin.{u32}
 use denote.Ref.{RefT}
-use denote.Slice.{sliceVal, ShrSlice, MutSlice, Room, slice-vals, shr-slice-tells, shr-slice-copy, finally, mut-slice-tells}
+use denote.Slice.{ShrSlice, MutSlice, Room, slice-vals, shr-slice-tells, shr-slice-copy, finally, mut-slice-tells}
 use denote.Signature.{plain}
 use denote.Steps.{nothing, owned, peeks, heard}
 use denote.Struct.Laws as LL
@@ -43,6 +43,7 @@ use Rattle.rules.proofs.answer.Answer.Laws as R′
 use Rattle.grammar.specs.Answers.{Answers}
 use Rattle.structs.specs.Structs.{recordsOf}
 use Rattle.structs.specs.declared.Token.{Token}
+use Rattle.structs.proofs.Again.{slice}
 use Rattle.structs.proofs.Token as T
 use Rattle.structs.proofs.parse_tokens as parse-tokens
 use Rattle.structs.proofs.parse_tokens.Symbol as parse-tokens-def
@@ -79,10 +80,6 @@ Export 𝓤 H A mem run = tripleOf 𝓤 H A exported.signature (exported.spec �
 
 module _ {M : Type 1} (𝓤 : URA M) (H : Heap 𝓤) (A : Atoms 𝓤) (W : Given 𝓤 H A) (mem : Memory → SProp 𝓤) (run : Routine → Fun 𝓤) (κ₁ κ₂ κ₃ : Lft) (q₁ q₂ q₃ : Share)
     (tokens : RefT (List Token)) (base : ℕ) (events errors : RefT (List ℕ)) (gb : base < 2 ^ 32) where
-  -- the machine value of a slice
-  abbrev slice : {X : Type 0} → RefT (List X) → Val
-  slice x = sliceVal (x .ptr) (length (x .now))
-
   abbrev a : Args exporting.signature (κ₁, (κ₂, (κ₃, tt)))
   a = (tokens, (base, (events, (errors, tt))))
 
@@ -93,13 +90,13 @@ module _ {M : Type 1} (𝓤 : URA M) (H : Heap 𝓤) (A : Atoms 𝓤) (W : Given
   Post = walkOf 𝓤 H A exporting.ended stayed (exporting.clauses 𝓤 H A mem run) .post (((κ₁, (κ₂, (κ₃, tt))), (q₁, (q₂, (q₃, tt))), tt, a, at), tt)
 
   abbrev Ts : Fml
-  Ts = ShrSlice (named 0) κ₁ T.the-row .own tokens ((slice tokens) ∷ [])
+  Ts = ShrSlice (named 0) κ₁ T.the-row .own tokens (slice tokens ∷ [])
 
   abbrev Ev : Fml
-  Ev = MutSlice (named 1) κ₂ u32 .own events ((slice events) ∷ [])
+  Ev = MutSlice (named 1) κ₂ u32 .own events (slice events ∷ [])
 
   abbrev Er : Fml
-  Er = MutSlice (named 2) κ₃ u32 .own errors ((slice errors) ∷ [])
+  Er = MutSlice (named 2) κ₃ u32 .own errors (slice errors ∷ [])
 
   -- what `parse_tokens` says of the answer and of both buffers
   abbrev Said : List ℕ → List ℕ → Answer → Type 0
@@ -119,7 +116,7 @@ module _ {M : Type 1} (𝓤 : URA M) (H : Heap 𝓤) (A : Atoms 𝓤) (W : Given
   asks-nothing P = via 𝓤 (sep 𝓤 (emp 𝓤) P) (emp∗ 𝓤 P) (comm∗ 𝓤 (emp 𝓤) P)
 
   abbrev to-parse : Parse 𝓤 H A mem run .Ghost
-  to-parse = (((κ₁, (κ₂, (κ₃, tt))), (q₁, (q₂, (q₃, tt))), tt, (tokens, (base, (events, (errors, tt)))), ((slice tokens) ∷ [], (vint w32 base ∷ [], ((slice events) ∷ [], ((slice errors) ∷ [], tt))))), tt)
+  to-parse = (((κ₁, (κ₂, (κ₃, tt))), (q₁, (q₂, (q₃, tt))), tt, (tokens, (base, (events, (errors, tt)))), (slice tokens ∷ [], (vint w32 base ∷ [], (slice events ∷ [], (slice errors ∷ [], tt))))), tt)
 
   goes-parse : ent 𝓤 (sep 𝓤 (sep 𝓤 (A .lft κ₁ q₁) (sep 𝓤 (A .lft κ₂ q₂) (sep 𝓤 (A .lft κ₃ q₃) (sem 𝓤 H A ftrue)))) (sep 𝓤 (sem 𝓤 H A Ts) (sep 𝓤 (sem 𝓤 H A Ev) (sem 𝓤 H A Er)))) (Parse 𝓤 H A mem run .pre to-parse)
   goes-parse =
@@ -137,10 +134,10 @@ module _ {M : Type 1} (𝓤 : URA M) (H : Heap 𝓤) (A : Atoms 𝓤) (W : Given
 
   module _ (C : Calls 𝓤 H) (Λ : Loops 𝓤 H) (fm : FmC 𝓤 H (W .laws) C) (known-parse : Triple 𝓤 (C #structs·parse-tokens) (Parse 𝓤 H A mem run)) (known-export : Triple 𝓤 (C #deckmarten·answer·exported) (Export 𝓤 H A mem run)) where
     walk : Room T.the-row (length (tokens .now)) → Room u32 (length (events .now)) → Room u32 (length (errors .now))
-        → ent 𝓤 (onEntry 𝓤 H A exporting.signature (κ₁, (κ₂, (κ₃, tt))) (q₁, (q₂, (q₃, tt))) a at) (WpFn 𝓤 H C Λ code.function ((slice tokens) ∷ vint w32 base ∷ (slice events) ∷ (slice errors) ∷ []) Post)
+        → ent 𝓤 (onEntry 𝓤 H A exporting.signature (κ₁, (κ₂, (κ₃, tt))) (q₁, (q₂, (q₃, tt))) a at) (WpFn 𝓤 H C Λ code.function (slice tokens ∷ vint w32 base ∷ (slice events) ∷ (slice errors) ∷ []) Post)
     walk gn ge gr =
         qed W ((‵ (flft κ₁ q₁) ⊛ ‵ (flft κ₂ q₂) ⊛ ‵ (flft κ₃ q₃) ⊛ ‵ ftrue) ∷ ‵ (owns (ShrSlice (named 0) κ₁ T.the-row ∷ u32 ∷ MutSlice (named 1) κ₂ u32 ∷ MutSlice (named 2) κ₃ u32 ∷ []) a at) ∷ []) ∵
-        enter ! C Λ code.function ((slice tokens) ∷ vint w32 base ∷ (slice events) ∷ (slice errors) ∷ []) _ $
+        enter ! C Λ code.function (slice tokens ∷ vint w32 base ∷ (slice events) ∷ (slice errors) ∷ []) _ $
         alloc1 ! (λ l₀. alloc1 ! (λ l₁. alloc1 ! (λ l₂. alloc1 ! (λ l₃. alloc1 ! (λ l₄. alloc1 ! (λ l₅. alloc1 ! (λ l₆. alloc1 ! (λ l₇. alloc1 ! (λ l₈. alloc1 ! (λ l₉. alloc0 ! $ params1 ! $
         pass1 ! (init ! 16 refl (tt, (tt, (record { fits = gn .0 }, tt)))) $ pass1 ! (init ! 14 refl (tt, record { fits = gb })) $ pass1 ! (init ! 12 refl (tt, (tt, (record { fits = ge .0 }, tt)))) $ pass1 ! (init ! 10 refl (tt, (tt, (record { fits = gr .0 }, tt)))) $ pass0 ! $
         assigns ! (addr ! (from ! (fld ! refl (hop ! (look-in ! 12 (sub ! 0 refl (whole !))) (stop !))))) (from ! (stop !)) (init ! 6 refl (tt, tt)) $
@@ -148,28 +145,28 @@ module _ {M : Type 1} (𝓤 : URA M) (H : Heap 𝓤) (A : Atoms 𝓤) (W : Given
         assigns ! (addr ! (from ! (fld ! refl (hop ! (look-in ! 10 (sub ! 0 refl (whole !))) (stop !))))) (from ! (stop !)) (init ! 2 refl (tt, tt)) $
         assigns ! (agg ! (and-then ! (load ! (from ! (stop !)) (look ! 2 refl)) (and-then ! (load ! (from ! (fld ! refl (stop !))) (look-in ! 10 (sub ! 1 refl (whole !)))) (no-more !)))) (from ! (stop !)) (init ! 0 refl (tt, (tt, (record { fits = gr .0 }, tt)))) $
         move ! (21 ∷ []) $ fsplit ! $ move ! (1 ∷ []) $ fsplit ! $ move ! (1 ∷ []) $ fsplit ! $ move ! (1 ∷ []) $ fsplit ! $
-        -- [errors; true; events; base; tokens; _9; …; the tokens]
-        move ! (4 ∷ []) $ use1 W (‵ Ts ⊛ ‵ Ts) (shr-slice-copy 𝓤 H A W (named 0) κ₁ T.the-row .twice tokens ((slice tokens) ∷ [])) $ split ! $
-        -- [tokens; tokens; errors; true; events; base; _9; …; the tokens]
+        -- [errors; true; events; base; tokens; _9; …; the lifetimes]
+        move ! (4 ∷ []) $ use1 W (‵ Ts ⊛ ‵ Ts) (shr-slice-copy 𝓤 H A W (named 0) κ₁ T.the-row .twice tokens (slice tokens ∷ [])) $ split ! $
+        -- [tokens; tokens; errors; true; events; base; _9; …; the lifetimes]
         move ! (4 ∷ 2 ∷ []) $ join ! $ move ! (25 ∷ 1 ∷ 0 ∷ []) $ use3 W (raw (Parse 𝓤 H A mem run .pre to-parse)) goes-parse $
         -- [the call's pre; tokens; true; base; _9; …]
         calls-at ! fm (Parse 𝓤 H A mem run) known-parse to-parse (and-then ! (load ! (from ! (stop !)) (look ! 20 refl)) (and-then ! (load ! (from ! (stop !)) (look ! 18 refl)) (and-then ! (load ! (from ! (stop !)) (look ! 8 refl)) (and-then ! (load ! (from ! (stop !)) (look ! 4 refl)) (no-more !))))) (λ v.
         use1 W (later (some (λ (p : Answer). ((‵ (flft κ₁ q₁) ⊛ ‵ (flft κ₂ q₂) ⊛ ‵ (flft κ₃ q₃) ⊛ ‵ ftrue) ⊛ ‵ (R.the-row .own p (v ∷ []))) ⊛ raw (ensured 𝓤 H A parse-tokens.ended (parse-tokens.clauses 𝓤 H A mem run) (κ₁, (κ₂, (κ₃, tt))) (tokens, (base, (events, (errors, tt)))) tt p)))) (id⊢ 𝓤 _) $ await ! tt $ pick ! (λ p.
         split ! $ move ! (1 ∷ []) $ use1 W (some (λ (us : Unit {0} × (Unit {0} × (List ℕ × (List ℕ × Unit {0})))). ‵ (lasts parse-tokens.ended (κ₁, (κ₂, (κ₃, tt))) (tokens, (base, (events, (errors, tt)))) us) ⊛ raw (fact 𝓤 (Said (us .1 .1 .0) (us .1 .1 .1 .0) p)))) (id⊢ 𝓤 _) $ pick ! (λ us.
         split ! $ move ! (1 ∷ []) $ heard ! (Said (us .1 .1 .0) (us .1 .1 .1 .0) p) (λ e. fsplit ! $ move ! (1 ∷ []) $ fsplit ! $ move ! (1 ∷ []) $ fsplit ! $ fsplit ! $ move ! (1 ∷ []) $ feqL ! (λ k₂. move ! (1 ∷ []) $ fsplit ! $ fsplit ! $ move ! (1 ∷ []) $ feqL ! (λ k₃.
-        -- [errors' last list; true; events'; …; …; the tokens and the answer; tokens; true; base; _9; …]
+        -- [errors' last list; true; events'; …; …; the lifetimes and the answer; tokens; true; base; _9; …]
         move ! (5 ∷ []) $ split ! $ move ! (1 ∷ []) $ peeks ! R.the-row (Is R.the-row) (shows 𝓤 H A R.the-row) p (v ∷ []) (λ is.
         land ! (from ! (stop !)) (init ! 18 refl (LL.lawful R.the-type R′.the-laws 𝓤 H A W .typed p _ is .0)) $
         use1 W (raw (Export 𝓤 H A mem run .pre (to-export p v))) (goes-export p v) $
-        -- [the call's pre; the tokens; errors' last list; true; events'; …; …; tokens; true; base; _9; …]
+        -- [the call's pre; the lifetimes; errors' last list; true; events'; …; …; tokens; true; base; _9; …]
         calls-at ! fm (Export 𝓤 H A mem run) known-export (to-export p v) (and-then ! (load ! (from ! (stop !)) (look ! 18 refl)) (no-more !)) (λ w.
         use1 W (later (some (λ (x : ExportedAnswer). (‵ ftrue ⊛ ‵ (E.the-row .own x (w ∷ []))) ⊛ raw (ensured 𝓤 H A exported.ended (exported.clauses 𝓤 H A mem run) tt (p, tt) tt x)))) (id⊢ 𝓤 _) $ await ! tt $ pick ! (λ x.
         split ! $ move ! (1 ∷ []) $ use1 W (some (λ (ws : Unit {0} × Unit {0}). ‵ (lasts exported.ended tt (p, tt) ws) ⊛ raw (fact 𝓤 (plainly x ≡ p)))) (id⊢ 𝓤 _) $ pick ! (λ ws.
         split ! $ move ! (1 ∷ []) $ heard ! (plainly x ≡ p) (λ f.
-        -- [nothing; the structure; the tokens; errors' last list; true; events'; …; …; tokens; true; base; _9; …]
+        -- [nothing; the structure; the lifetimes; errors' last list; true; events'; …; …; tokens; true; base; _9; …]
         move ! (1 ∷ []) $ split ! $ move ! (1 ∷ []) $ peeks ! E.the-row (Is E.the-row) (shows 𝓤 H A E.the-row) x (w ∷ []) (λ js.
         land ! (from ! (stop !)) (init ! 30 refl (LL.lawful E.the-type E′.the-laws 𝓤 H A W .typed x _ js .0)) $
-        -- [the structure; true; nothing; the tokens; errors' last list; true; events'; …; …; tokens; true; base; _9; …]
+        -- [the structure; true; nothing; the lifetimes; errors' last list; true; events'; …; …; tokens; true; base; _9; …]
         returns ! (look ! 30 refl) $ forget ! 12 refl $ forget ! 14 refl $ forget ! 16 refl $ forget ! 18 refl $ forget ! 20 refl $ forget ! 22 refl $ forget ! 24 refl $ forget ! 26 refl $ forget ! 28 refl $ forget ! 30 refl $
         move ! (30 ∷ 31 ∷ []) $ free1 ! $ move ! (28 ∷ 29 ∷ []) $ free1 ! $ move ! (26 ∷ 27 ∷ []) $ free1 ! $ move ! (24 ∷ 25 ∷ []) $ free1 ! $ move ! (22 ∷ 23 ∷ []) $ free1 ! $ move ! (20 ∷ 21 ∷ []) $ free1 ! $ move ! (18 ∷ 19 ∷ []) $ free1 ! $ move ! (16 ∷ 17 ∷ []) $ free1 ! $ move ! (14 ∷ 15 ∷ []) $ free1 ! $ move ! (12 ∷ 13 ∷ []) $ free1 ! $ free0 ! $
         keep ! (3 ∷ 9 ∷ 6 ∷ 4 ∷ 0 ∷ []) $ by ! (exits p x w (us .1 .1 .0) (us .1 .1 .1 .0) f e k₂ k₃)))))))))))))))))))))))

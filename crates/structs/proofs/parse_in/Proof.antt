@@ -28,11 +28,11 @@ use denote.Laws.{Is, shows}
 use denote.Plain.{uint-vals, uint-tells, uint-makes}
 use denote.Builtin.{u8, u32, usize, unit}
 use denote.Ref.{RefT}
-use denote.Slice.{sliceVal, ShrSlice, MutSlice, Room, slice-vals, shr-slice-tells, shr-slice-copy, finally, mut-slice-tells}
+use denote.Slice.{ShrSlice, MutSlice, Room, slice-vals, shr-slice-tells, shr-slice-copy, finally, mut-slice-tells}
 use denote.Signature.{plain}
 use denote.Steps.{only, nothing, owned, peeks, heard}
 use denote.Struct.Laws as LL
-use denote.Triple.Entry.{Vals, onEntry}
+use denote.Triple.Entry.{Args, Vals, onEntry}
 use denote.Triple.Spec.{Meets, tripleOf}
 use denote.Triple.Statement.{Contract, Triple}
 use denote.Triple.Call.{calls-at}
@@ -48,7 +48,7 @@ use Rattle.structs.specs.Structs.{recordsOf}
 use Rattle.structs.specs.declared.Token.{Token}
 use Rattle.structs.proofs.StructLaws.{first-records}
 use Rattle.structs.proofs.Token as T
-use Rattle.structs.proofs.Again.{LentAgain, lends-again, comes-back}
+use Rattle.structs.proofs.Again.{slice, LentAgain, lends-again, comes-back}
 use Rattle.structs.proofs.copy as copy
 use Rattle.structs.proofs.copy.Symbol as copy-def
 use Rattle.structs.proofs.copy.Symbol.{name as #structs·copy}
@@ -84,77 +84,56 @@ Parse 𝓤 H A mem run = tripleOf 𝓤 H A parse-records.signature (parse-record
 abbrev Parsed : ℕ → List ℕ → ℕ → List ℕ → List ℕ → List ℕ → List ℕ → Answer → Type 0
 Parsed n zs base es rs es′ rs′ r = Answers documentEntry (take (6 * n) zs) base es rs es′ rs′ r
 
-module _ {M : Type 1} (𝓤 : URA M) (H : Heap 𝓤) (A : Atoms 𝓤) (W : Given 𝓤 H A) (mem : Memory → SProp 𝓤) (run : Routine → Fun 𝓤) (κ₁ κ₂ κ₃ κ₄ : Lft) (q₁ q₂ q₃ q₄ : Share) (b₁ o₁ : ℕ) (γ₁ : GName) (ys : List Token)
-    (b₂ o₂ : ℕ) (γ₂ : GName) (xs : List ℕ) (base : ℕ) (b₃ o₃ : ℕ) (γ₃ : GName) (es : List ℕ) (b₄ o₄ : ℕ) (γ₄ : GName) (rs : List ℕ) (gb : base < 2 ^ 32) where
+module _ {M : Type 1} (𝓤 : URA M) (H : Heap 𝓤) (A : Atoms 𝓤) (W : Given 𝓤 H A) (mem : Memory → SProp 𝓤) (run : Routine → Fun 𝓤) (κ₁ κ₂ κ₃ κ₄ : Lft) (q₁ q₂ q₃ q₄ : Share)
+    (tokens : RefT (List Token)) (records : RefT (List ℕ)) (base : ℕ) (events errors : RefT (List ℕ)) (gb : base < 2 ^ 32) where
   abbrev n : ℕ
-  n = length ys
-
-  abbrev ts : RefT (List Token)
-  ts = record { ptr = (b₁, o₁); name = γ₁; now = ys }
+  n = length (tokens .now)
 
   -- the records under the name δ, at the list l
   abbrev rx : GName → List ℕ → RefT (List ℕ)
-  rx δ l = record { ptr = (b₂, o₂); name = δ; now = l }
+  rx δ l = record { ptr = records .ptr; name = δ; now = l }
 
-  abbrev ex : RefT (List ℕ)
-  ex = record { ptr = (b₃, o₃); name = γ₃; now = es }
-
-  abbrev fx : RefT (List ℕ)
-  fx = record { ptr = (b₄, o₄); name = γ₄; now = rs }
-
-  abbrev s₁ : Val
-  s₁ = sliceVal (b₁, o₁) n
-
-  abbrev s₂ : Val
-  s₂ = sliceVal (b₂, o₂) (length xs)
-
-  abbrev s₃ : Val
-  s₃ = sliceVal (b₃, o₃) (length es)
-
-  abbrev s₄ : Val
-  s₄ = sliceVal (b₄, o₄) (length rs)
-
-  abbrev a : RefT (List Token) × (RefT (List ℕ) × (ℕ × (RefT (List ℕ) × (RefT (List ℕ) × Unit {0}))))
-  a = (ts, (rx γ₂ xs, (base, (ex, (fx, tt)))))
+  abbrev a : Args parse-in.signature (κ₁, (κ₂, (κ₃, (κ₄, tt))))
+  a = (tokens, (records, (base, (events, (errors, tt)))))
 
   abbrev at : Vals parse-in.signature (κ₁, (κ₂, (κ₃, (κ₄, tt))))
-  at = (s₁ ∷ [], (s₂ ∷ [], (vint w32 base ∷ [], (s₃ ∷ [], (s₄ ∷ [], tt)))))
+  at = (slice tokens ∷ [], (slice records ∷ [], (vint w32 base ∷ [], (slice events ∷ [], (slice errors ∷ [], tt)))))
 
   abbrev Post : Val → SProp 𝓤
   Post = walkOf 𝓤 H A parse-in.ended stayed (parse-in.clauses 𝓤 H A mem run) .post (((κ₁, (κ₂, (κ₃, (κ₄, tt)))), (q₁, (q₂, (q₃, (q₄, tt)))), tt, a, at), tt)
 
   abbrev Ts : Fml
-  Ts = ShrSlice (named 0) κ₁ T.the-row .own ts (s₁ ∷ [])
+  Ts = ShrSlice (named 0) κ₁ T.the-row .own tokens (slice tokens ∷ [])
 
   abbrev Rec : List ℕ → Fml
-  Rec zs = MutSlice (named 1) κ₂ u8 .own (rx γ₂ zs) (s₂ ∷ [])
+  Rec zs = MutSlice (named 1) κ₂ u8 .own (rx (records .name) zs) (slice records ∷ [])
 
   abbrev Ev : Fml
-  Ev = MutSlice (named 2) κ₃ u32 .own ex (s₃ ∷ [])
+  Ev = MutSlice (named 2) κ₃ u32 .own events (slice events ∷ [])
 
   abbrev Er : Fml
-  Er = MutSlice (named 3) κ₄ u32 .own fx (s₄ ∷ [])
+  Er = MutSlice (named 3) κ₄ u32 .own errors (slice errors ∷ [])
 
-  exits : (r : Answer) (w : Val) (zs us es′ rs′ : List ℕ) → zs ≡ recordsOf ys ++ drop (6 * n) xs → Parsed n zs base es rs es′ rs′ r → length us ≡ length xs → length es′ ≡ length es → length rs′ ≡ length rs
-      → ent 𝓤 (⋆ 𝓤 H A (‵ (flft κ₁ q₁) ∷ (‵ (flft κ₂ q₂) ⊛ ‵ (flft κ₃ q₃) ⊛ ‵ (flft κ₄ q₄) ⊛ ‵ ftrue) ∷ ‵ Ts ∷ ‵ (finally u8 γ₂ us) ∷ ‵ (finally u32 γ₃ es′) ∷ ‵ (finally u32 γ₄ rs′) ∷ ‵ (R.the-row .own r (w ∷ [])) ∷ [])) (Post w)
+  exits : (r : Answer) (w : Val) (zs us es′ rs′ : List ℕ) → zs ≡ recordsOf (tokens .now) ++ drop (6 * n) (records .now) → Parsed n zs base (events .now) (errors .now) es′ rs′ r → length us ≡ length (records .now) → length es′ ≡ length (events .now) → length rs′ ≡ length (errors .now)
+      → ent 𝓤 (⋆ 𝓤 H A (‵ (flft κ₁ q₁) ∷ (‵ (flft κ₂ q₂) ⊛ ‵ (flft κ₃ q₃) ⊛ ‵ (flft κ₄ q₄) ⊛ ‵ ftrue) ∷ ‵ Ts ∷ ‵ (finally u8 (records .name) us) ∷ ‵ (finally u32 (events .name) es′) ∷ ‵ (finally u32 (errors .name) rs′) ∷ ‵ (R.the-row .own r (w ∷ [])) ∷ [])) (Post w)
   exits r w zs us es′ rs′ f e l₂ l₃ l₄ =
-      qed W (‵ (flft κ₁ q₁) ∷ (‵ (flft κ₂ q₂) ⊛ ‵ (flft κ₃ q₃) ⊛ ‵ (flft κ₄ q₄) ⊛ ‵ ftrue) ∷ ‵ Ts ∷ ‵ (finally u8 γ₂ us) ∷ ‵ (finally u32 γ₃ es′) ∷ ‵ (finally u32 γ₄ rs′) ∷ ‵ (R.the-row .own r (w ∷ [])) ∷ []) ∵
+      qed W (‵ (flft κ₁ q₁) ∷ (‵ (flft κ₂ q₂) ⊛ ‵ (flft κ₃ q₃) ⊛ ‵ (flft κ₄ q₄) ⊛ ‵ ftrue) ∷ ‵ Ts ∷ ‵ (finally u8 (records .name) us) ∷ ‵ (finally u32 (events .name) es′) ∷ ‵ (finally u32 (errors .name) rs′) ∷ ‵ (R.the-row .own r (w ∷ [])) ∷ []) ∵
       suffices ! _ (ends-at 𝓤 H A parse-in.ended stayed (parse-in.clauses 𝓤 H A mem run) W (((κ₁, (κ₂, (κ₃, (κ₄, tt)))), (q₁, (q₂, (q₃, (q₄, tt)))), tt, a, at), tt) w r (tt, (us, (tt, (es′, (rs′, tt))))) (tt, (l₂, (tt, (l₃, (l₄, tt)))))) $
-      says ! (subst (λ (l : List ℕ). Answers documentEntry l base es rs es′ rs′ r) (ap (λ (l : List ℕ). take (6 * n) l) f ∙ first-records ys (drop (6 * n) xs)) e) $
+      says ! (subst (λ (l : List ℕ). Answers documentEntry l base (events .now) (errors .now) es′ rs′ r) (ap (λ (l : List ℕ). take (6 * n) l) f ∙ first-records (tokens .now) (drop (6 * n) (records .now))) e) $
       join ! $ nothing ! $ move ! (5 ∷ 0 ∷ []) $ fjoin ! $ move ! (4 ∷ 0 ∷ []) $ fjoin ! $ owned ! u32 (Is u32) (uint-makes 𝓤 H A W w32) base _ (refl, gb) $ fjoin ! $
       move ! (3 ∷ 0 ∷ []) $ fjoin ! $ move ! (2 ∷ 0 ∷ []) $ fjoin ! $ move ! (1 ∷ 0 ∷ []) $ frame ! $ done !
 
   abbrev to-copy : ℕ → GName → Copy 𝓤 H A mem run .Ghost
-  to-copy ν δ = (((κ₁, (ν ∷ [], tt)), (q₁, (fullShare, tt)), tt, (ts, (rx δ xs, tt)), (s₁ ∷ [], (s₂ ∷ [], tt))), tt)
+  to-copy ν δ = (((κ₁, (ν ∷ [], tt)), (q₁, (fullShare, tt)), tt, (tokens, (rx δ (records .now), tt)), (slice tokens ∷ [], (slice records ∷ [], tt))), tt)
 
-  goes-copy : 6 * n ≤ length xs → (ν : ℕ) (δ : GName)
-      → ent 𝓤 (sep 𝓤 (sep 𝓤 (A .lft κ₁ q₁) (A .lft (ν ∷ []) fullShare)) (sep 𝓤 (sem 𝓤 H A Ts) (sem 𝓤 H A (MutSlice (named 1) (ν ∷ []) u8 .own (rx δ xs) (s₂ ∷ []))))) (Copy 𝓤 H A mem run .pre (to-copy ν δ))
+  goes-copy : 6 * n ≤ length (records .now) → (ν : ℕ) (δ : GName)
+      → ent 𝓤 (sep 𝓤 (sep 𝓤 (A .lft κ₁ q₁) (A .lft (ν ∷ []) fullShare)) (sep 𝓤 (sem 𝓤 H A Ts) (sem 𝓤 H A (MutSlice (named 1) (ν ∷ []) u8 .own (rx δ (records .now)) (slice records ∷ []))))) (Copy 𝓤 H A mem run .pre (to-copy ν δ))
   goes-copy roomy ν δ =
-      qed W ((‵ (flft κ₁ q₁) ⊛ ‵ (flft (ν ∷ []) fullShare)) ∷ ‵ Ts ∷ ‵ (MutSlice (named 1) (ν ∷ []) u8 .own (rx δ xs) (s₂ ∷ [])) ∷ []) ∵ says ! roomy $ split ! $
+      qed W ((‵ (flft κ₁ q₁) ⊛ ‵ (flft (ν ∷ []) fullShare)) ∷ ‵ Ts ∷ ‵ (MutSlice (named 1) (ν ∷ []) u8 .own (rx δ (records .now)) (slice records ∷ [])) ∷ []) ∵ says ! roomy $ split ! $
       nothing ! $ move ! (2 ∷ 0 ∷ []) $ join ! $ move ! (1 ∷ 0 ∷ []) $ join ! $ frame ! $ nothing ! $ move ! (2 ∷ 0 ∷ []) $ fjoin ! $ move ! (1 ∷ 0 ∷ []) $ fjoin ! $ done !
 
   abbrev to-parse : List ℕ → Parse 𝓤 H A mem run .Ghost
-  to-parse zs = (((κ₂, (κ₃, (κ₄, tt))), (q₂, (q₃, (q₄, tt))), tt, (rx γ₂ zs, (n, (base, (ex, (fx, tt))))), (s₂ ∷ [], (vint w64 n ∷ [], (vint w32 base ∷ [], (s₃ ∷ [], (s₄ ∷ [], tt)))))), tt)
+  to-parse zs = (((κ₂, (κ₃, (κ₄, tt))), (q₂, (q₃, (q₄, tt))), tt, (rx (records .name) zs, (n, (base, (events, (errors, tt))))), (slice records ∷ [], (vint w64 n ∷ [], (vint w32 base ∷ [], (slice events ∷ [], (slice errors ∷ [], tt)))))), tt)
 
   goes-parse : (zs : List ℕ) → 6 * n ≤ length zs → n < 2 ^ 64
       → ent 𝓤 (sep 𝓤 (sep 𝓤 (A .lft κ₂ q₂) (sep 𝓤 (A .lft κ₃ q₃) (A .lft κ₄ q₄))) (sep 𝓤 (sem 𝓤 H A (Rec zs)) (sep 𝓤 (sem 𝓤 H A Ev) (sem 𝓤 H A Er)))) (Parse 𝓤 H A mem run .pre (to-parse zs))
@@ -165,35 +144,35 @@ module _ {M : Type 1} (𝓤 : URA M) (H : Heap 𝓤) (A : Atoms 𝓤) (W : Given
       owned ! usize (Is usize) (uint-makes 𝓤 H A W w64) n _ (refl, gn) $ fjoin ! $ move ! (1 ∷ 0 ∷ []) $ fjoin ! $ done !
 
   module _ (C : Calls 𝓤 H) (Λ : Loops 𝓤 H) (fm : FmC 𝓤 H (W .laws) C) (known-copy : Triple 𝓤 (C #structs·copy) (Copy 𝓤 H A mem run)) (known-parse : Triple 𝓤 (C #structs·parse-records) (Parse 𝓤 H A mem run)) where
-    walk : Room T.the-row n → Room u8 (length xs) → Room u32 (length es) → Room u32 (length rs) → 6 * n ≤ length xs
-        → ent 𝓤 (onEntry 𝓤 H A parse-in.signature (κ₁, (κ₂, (κ₃, (κ₄, tt)))) (q₁, (q₂, (q₃, (q₄, tt)))) a at) (WpFn 𝓤 H C Λ code.function (s₁ ∷ s₂ ∷ vint w32 base ∷ s₃ ∷ s₄ ∷ []) Post)
+    walk : Room T.the-row n → Room u8 (length (records .now)) → Room u32 (length (events .now)) → Room u32 (length (errors .now)) → 6 * n ≤ length (records .now)
+        → ent 𝓤 (onEntry 𝓤 H A parse-in.signature (κ₁, (κ₂, (κ₃, (κ₄, tt)))) (q₁, (q₂, (q₃, (q₄, tt)))) a at) (WpFn 𝓤 H C Λ code.function (slice tokens ∷ (slice records) ∷ vint w32 base ∷ (slice events) ∷ (slice errors) ∷ []) Post)
     walk gn gm ge gr roomy =
         qed W ((‵ (flft κ₁ q₁) ⊛ ‵ (flft κ₂ q₂) ⊛ ‵ (flft κ₃ q₃) ⊛ ‵ (flft κ₄ q₄) ⊛ ‵ ftrue) ∷ ‵ (owns (ShrSlice (named 0) κ₁ T.the-row ∷ MutSlice (named 1) κ₂ u8 ∷ u32 ∷ MutSlice (named 2) κ₃ u32 ∷ MutSlice (named 3) κ₄ u32 ∷ []) a at) ∷ []) ∵
-        enter ! C Λ code.function (s₁ ∷ s₂ ∷ vint w32 base ∷ s₃ ∷ s₄ ∷ []) _ $
+        enter ! C Λ code.function (slice tokens ∷ (slice records) ∷ vint w32 base ∷ (slice events) ∷ (slice errors) ∷ []) _ $
         alloc1 ! (λ l₀. alloc1 ! (λ l₁. alloc1 ! (λ l₂. alloc1 ! (λ l₃. alloc1 ! (λ l₄. alloc1 ! (λ l₅. alloc1 ! (λ l₆. alloc1 ! (λ l₇. alloc1 ! (λ l₈. alloc1 ! (λ l₉. alloc1 ! (λ l₁₀. alloc1 ! (λ l₁₁. alloc1 ! (λ l₁₂. alloc1 ! (λ l₁₃. alloc1 ! (λ l₁₄. alloc1 ! (λ l₁₅. alloc0 ! $ params1 ! $
         pass1 ! (init ! 28 refl (tt, (tt, (record { fits = gn .0 }, tt)))) $ pass1 ! (init ! 26 refl (tt, (tt, (record { fits = gm .0 }, tt)))) $ pass1 ! (init ! 24 refl (tt, record { fits = gb })) $
         pass1 ! (init ! 22 refl (tt, (tt, (record { fits = ge .0 }, tt)))) $ pass1 ! (init ! 20 refl (tt, (tt, (record { fits = gr .0 }, tt)))) $ pass0 ! $
         assigns ! (addr ! (from ! (fld ! refl (hop ! (look-in ! 26 (sub ! 0 refl (whole !))) (stop !))))) (from ! (stop !)) (init ! 16 refl (tt, tt)) $
         assigns ! (agg ! (and-then ! (load ! (from ! (stop !)) (look ! 16 refl)) (and-then ! (load ! (from ! (fld ! refl (stop !))) (look-in ! 26 (sub ! 1 refl (whole !)))) (no-more !)))) (from ! (stop !)) (init ! 14 refl (tt, (tt, (record { fits = gm .0 }, tt)))) $
         move ! (33 ∷ []) $ fsplit ! $ move ! (1 ∷ []) $ fsplit ! $ move ! (1 ∷ []) $ fsplit ! $ move ! (1 ∷ []) $ fsplit ! $ move ! (1 ∷ []) $ fsplit ! $
-        -- [errors; true; events; base; records; ts; _15; …; the tokens]
+        -- [errors; true; events; base; records; tokens; _15; …; the lifetimes]
         move ! (38 ∷ []) $ split ! $ move ! (1 ∷ []) $ split ! $ move ! (1 ∷ []) $ split ! $ move ! (1 ∷ []) $ split ! $
-        -- [κ₄; true; κ₃; κ₂; κ₁; errors; true; events; base; records; ts; _15; …]
-        move ! (10 ∷ []) $ use1 W (‵ Ts ⊛ ‵ Ts) (shr-slice-copy 𝓤 H A W (named 0) κ₁ T.the-row .twice ts (s₁ ∷ [])) $ split ! $
+        -- [κ₄; true; κ₃; κ₂; κ₁; errors; true; events; base; records; tokens; _15; …]
+        move ! (10 ∷ []) $ use1 W (‵ Ts ⊛ ‵ Ts) (shr-slice-copy 𝓤 H A W (named 0) κ₁ T.the-row .twice tokens (slice tokens ∷ [])) $ split ! $
         lft-new ! tt (λ ν. move ! (12 ∷ 6 ∷ []) $
-        use2 W (later (some (λ (δ : GName). ‵ (MutSlice (named 1) (ν ∷ []) u8 .own (rx δ xs) (s₂ ∷ [])) ⊛ ‵ (LentAgain u8 κ₂ (ν ∷ []) q₂ γ₂ b₂ o₂ δ xs)))) (lends-again u8 κ₂ (ν ∷ []) q₂ γ₂ b₂ o₂ 𝓤 H A W (named 1) (named 1) xs) $ await ! tt $ pick ! (λ δ. split ! $
-        -- [the records lent; what comes back; ν; ts; ts; κ₄; true; κ₃; κ₁; errors; true; events; base; _15; …]
+        use2 W (later (some (λ (δ : GName). ‵ (MutSlice (named 1) (ν ∷ []) u8 .own (rx δ (records .now)) (slice records ∷ [])) ⊛ ‵ (LentAgain u8 κ₂ (ν ∷ []) q₂ (records .name) (records .ptr .0) (records .ptr .1) δ (records .now))))) (lends-again u8 κ₂ (ν ∷ []) q₂ (records .name) (records .ptr .0) (records .ptr .1) 𝓤 H A W (named 1) (named 1) (records .now)) $ await ! tt $ pick ! (λ δ. split ! $
+        -- [the records lent; what comes back; ν; tokens; tokens; κ₄; true; κ₃; κ₁; errors; true; events; base; _15; …]
         move ! (8 ∷ 2 ∷ 3 ∷ 0 ∷ []) $ join ! $ use3 W (raw (Copy 𝓤 H A mem run .pre (to-copy ν δ))) (goes-copy roomy ν δ) $
         calls-at ! fm (Copy 𝓤 H A mem run) known-copy (to-copy ν δ) (and-then ! (load ! (from ! (stop !)) (look ! 38 refl)) (and-then ! (load ! (from ! (stop !)) (look ! 24 refl)) (no-more !))) (λ w.
-        use1 W (later (some (λ (r : Unit {0}). ((‵ (flft κ₁ q₁) ⊛ ‵ (flft (ν ∷ []) fullShare) ⊛ ‵ ftrue) ⊛ ‵ (unit .own r (w ∷ []))) ⊛ raw (ensured 𝓤 H A copy.ended (copy.clauses 𝓤 H A mem run) (κ₁, (ν ∷ [], tt)) (ts, (rx δ xs, tt)) tt r)))) (id⊢ 𝓤 _) $ await ! tt $ pick ! (λ r.
-        split ! $ move ! (1 ∷ []) $ use1 W (some (λ (ws : Unit {0} × (List ℕ × Unit {0})). ‵ (lasts copy.ended (κ₁, (ν ∷ [], tt)) (ts, (rx δ xs, tt)) ws) ⊛ raw (fact 𝓤 (ws .1 .0 ≡ recordsOf ys ++ drop (6 * n) xs)))) (id⊢ 𝓤 _) $ pick ! (λ ws.
-        split ! $ move ! (1 ∷ []) $ heard ! (ws .1 .0 ≡ recordsOf ys ++ drop (6 * n) xs) (λ f. fsplit ! $ move ! (1 ∷ []) $ fsplit ! $ fsplit ! $ move ! (1 ∷ []) $ feqL ! (λ l.
-        -- [the last list; …; …; the tokens and the result; what comes back; ts; κ₄; true; κ₃; errors; true; events; base; _15; …]
+        use1 W (later (some (λ (r : Unit {0}). ((‵ (flft κ₁ q₁) ⊛ ‵ (flft (ν ∷ []) fullShare) ⊛ ‵ ftrue) ⊛ ‵ (unit .own r (w ∷ []))) ⊛ raw (ensured 𝓤 H A copy.ended (copy.clauses 𝓤 H A mem run) (κ₁, (ν ∷ [], tt)) (tokens, (rx δ (records .now), tt)) tt r)))) (id⊢ 𝓤 _) $ await ! tt $ pick ! (λ r.
+        split ! $ move ! (1 ∷ []) $ use1 W (some (λ (ws : Unit {0} × (List ℕ × Unit {0})). ‵ (lasts copy.ended (κ₁, (ν ∷ [], tt)) (tokens, (rx δ (records .now), tt)) ws) ⊛ raw (fact 𝓤 (ws .1 .0 ≡ recordsOf (tokens .now) ++ drop (6 * n) (records .now))))) (id⊢ 𝓤 _) $ pick ! (λ ws.
+        split ! $ move ! (1 ∷ []) $ heard ! (ws .1 .0 ≡ recordsOf (tokens .now) ++ drop (6 * n) (records .now)) (λ f. fsplit ! $ move ! (1 ∷ []) $ fsplit ! $ fsplit ! $ move ! (1 ∷ []) $ feqL ! (λ l.
+        -- [the last list; …; …; the lifetimes and the result; what comes back; tokens; κ₄; true; κ₃; errors; true; events; base; _15; …]
         move ! (3 ∷ []) $ split ! $ move ! (1 ∷ []) $ peeks ! unit (Is unit) (shows 𝓤 H A unit) r (w ∷ []) (λ is.
         land ! (from ! (stop !)) (init ! 32 refl (subst (λ (y : Val). Holds (hasTy tyUnit y) × WT y) (sym (ap only is)) (tt, tt))) $
         move ! (1 ∷ []) $ split ! $ move ! (1 ∷ []) $ split ! $ lft-end ! tt $ move ! (0 ∷ 7 ∷ 4 ∷ []) $
-        use3 W (later (‵ (Rec (ws .1 .0)) ⊛ ‵ (flft κ₂ q₂))) (comes-back u8 κ₂ (ν ∷ []) q₂ γ₂ b₂ o₂ 𝓤 H A W (named 1) (named 1) xs δ (ws .1 .0) gm l) $ await ! tt $ split ! $
-        -- [records; κ₂; true; κ₁; r; …; …; ts; κ₄; true; κ₃; errors; true; events; base; _15; …]
+        use3 W (later (‵ (Rec (ws .1 .0)) ⊛ ‵ (flft κ₂ q₂))) (comes-back u8 κ₂ (ν ∷ []) q₂ (records .name) (records .ptr .0) (records .ptr .1) 𝓤 H A W (named 1) (named 1) (records .now) δ (ws .1 .0) gm l) $ await ! tt $ split ! $
+        -- [records; κ₂; true; κ₁; r; …; …; tokens; κ₄; true; κ₃; errors; true; events; base; _15; …]
         assigns ! (addr ! (from ! (fld ! refl (hop ! (look-in ! 41 (sub ! 0 refl (whole !))) (stop !))))) (from ! (stop !)) (init ! 27 refl (tt, tt)) $
         assigns ! (agg ! (and-then ! (load ! (from ! (stop !)) (look ! 27 refl)) (and-then ! (load ! (from ! (fld ! refl (stop !))) (look-in ! 41 (sub ! 1 refl (whole !)))) (no-more !)))) (from ! (stop !)) (init ! 25 refl (tt, (tt, (record { fits = gm .0 }, tt)))) $
         assigns ! (of-opd ! (load ! (from ! (fld ! refl (stop !))) (look-in ! 43 (sub ! 1 refl (whole !))))) (from ! (stop !)) (init ! 23 refl (tt, record { fits = gn .0 })) $
@@ -203,14 +182,14 @@ module _ {M : Type 1} (𝓤 : URA M) (H : Heap 𝓤) (A : Atoms 𝓤) (W : Given
         assigns ! (agg ! (and-then ! (load ! (from ! (stop !)) (look ! 17 refl)) (and-then ! (load ! (from ! (fld ! refl (stop !))) (look-in ! 35 (sub ! 1 refl (whole !)))) (no-more !)))) (from ! (stop !)) (init ! 15 refl (tt, (tt, (record { fits = gr .0 }, tt)))) $
         move ! (10 ∷ 8 ∷ []) $ join ! $ move ! (2 ∷ 0 ∷ []) $ join ! $ move ! (11 ∷ 9 ∷ []) $ join ! $ move ! (1 ∷ 2 ∷ 0 ∷ []) $
         use3 W (raw (Parse 𝓤 H A mem run .pre (to-parse (ws .1 .0)))) (goes-parse (ws .1 .0) (subst (λ (k : ℕ). 6 * n ≤ k) (sym l) roomy) (gn .0)) $
-        -- [the call's pre; true; κ₁; r; …; …; ts; true; true; base; _15; …]
+        -- [the call's pre; true; κ₁; r; …; …; tokens; true; true; base; _15; …]
         calls-at ! fm (Parse 𝓤 H A mem run) known-parse (to-parse (ws .1 .0)) (and-then ! (load ! (from ! (stop !)) (look ! 20 refl)) (and-then ! (load ! (from ! (stop !)) (look ! 18 refl)) (and-then ! (load ! (from ! (stop !)) (look ! 34 refl))
         (and-then ! (load ! (from ! (stop !)) (look ! 14 refl)) (and-then ! (load ! (from ! (stop !)) (look ! 10 refl)) (no-more !)))))) (λ v.
-        use1 W (later (some (λ (p : Answer). ((‵ (flft κ₂ q₂) ⊛ ‵ (flft κ₃ q₃) ⊛ ‵ (flft κ₄ q₄) ⊛ ‵ ftrue) ⊛ ‵ (R.the-row .own p (v ∷ []))) ⊛ raw (ensured 𝓤 H A parse-records.ended (parse-records.clauses 𝓤 H A mem run) (κ₂, (κ₃, (κ₄, tt))) (rx γ₂ (ws .1 .0), (n, (base, (ex, (fx, tt))))) tt p)))) (id⊢ 𝓤 _) $ await ! tt $ pick ! (λ p.
-        split ! $ move ! (1 ∷ []) $ use1 W (some (λ (us : List ℕ × (Unit {0} × (Unit {0} × (List ℕ × (List ℕ × Unit {0}))))). ‵ (lasts parse-records.ended (κ₂, (κ₃, (κ₄, tt))) (rx γ₂ (ws .1 .0), (n, (base, (ex, (fx, tt))))) us) ⊛ raw (fact 𝓤 (Parsed n (ws .1 .0) base es rs (us .1 .1 .1 .0) (us .1 .1 .1 .1 .0) p)))) (id⊢ 𝓤 _) $ pick ! (λ us.
-        split ! $ move ! (1 ∷ []) $ heard ! (Parsed n (ws .1 .0) base es rs (us .1 .1 .1 .0) (us .1 .1 .1 .1 .0) p) (λ e. fsplit ! $ fsplit ! $ move ! (1 ∷ []) $ feqL ! (λ k₂. move ! (1 ∷ []) $ fsplit ! $ move ! (1 ∷ []) $ fsplit ! $ move ! (1 ∷ []) $ fsplit ! $ fsplit ! $ move ! (1 ∷ []) $ feqL ! (λ k₃.
+        use1 W (later (some (λ (p : Answer). ((‵ (flft κ₂ q₂) ⊛ ‵ (flft κ₃ q₃) ⊛ ‵ (flft κ₄ q₄) ⊛ ‵ ftrue) ⊛ ‵ (R.the-row .own p (v ∷ []))) ⊛ raw (ensured 𝓤 H A parse-records.ended (parse-records.clauses 𝓤 H A mem run) (κ₂, (κ₃, (κ₄, tt))) (rx (records .name) (ws .1 .0), (n, (base, (events, (errors, tt))))) tt p)))) (id⊢ 𝓤 _) $ await ! tt $ pick ! (λ p.
+        split ! $ move ! (1 ∷ []) $ use1 W (some (λ (us : List ℕ × (Unit {0} × (Unit {0} × (List ℕ × (List ℕ × Unit {0}))))). ‵ (lasts parse-records.ended (κ₂, (κ₃, (κ₄, tt))) (rx (records .name) (ws .1 .0), (n, (base, (events, (errors, tt))))) us) ⊛ raw (fact 𝓤 (Parsed n (ws .1 .0) base (events .now) (errors .now) (us .1 .1 .1 .0) (us .1 .1 .1 .1 .0) p)))) (id⊢ 𝓤 _) $ pick ! (λ us.
+        split ! $ move ! (1 ∷ []) $ heard ! (Parsed n (ws .1 .0) base (events .now) (errors .now) (us .1 .1 .1 .0) (us .1 .1 .1 .1 .0) p) (λ e. fsplit ! $ fsplit ! $ move ! (1 ∷ []) $ feqL ! (λ k₂. move ! (1 ∷ []) $ fsplit ! $ move ! (1 ∷ []) $ fsplit ! $ move ! (1 ∷ []) $ fsplit ! $ fsplit ! $ move ! (1 ∷ []) $ feqL ! (λ k₃.
         move ! (1 ∷ []) $ fsplit ! $ fsplit ! $ move ! (1 ∷ []) $ feqL ! (λ k₄.
-        -- [errors' last list; true; events'; …; …; records'; the tokens and the result; true; κ₁; r; …; …; ts; true; true; base; _15; …]
+        -- [errors' last list; true; events'; …; …; records'; the lifetimes and the result; true; κ₁; r; …; …; tokens; true; true; base; _15; …]
         move ! (6 ∷ []) $ split ! $ move ! (1 ∷ []) $ peeks ! R.the-row (Is R.the-row) (shows 𝓤 H A R.the-row) p (v ∷ []) (λ js.
         land ! (from ! (stop !)) (init ! 47 refl (LL.lawful R.the-type R′.the-laws 𝓤 H A W .typed p _ js .0)) $
         returns ! (look ! 47 refl) $ forget ! 17 refl $ forget ! 19 refl $ forget ! 21 refl $ forget ! 23 refl $ forget ! 25 refl $ forget ! 27 refl $ forget ! 29 refl $ forget ! 31 refl $ forget ! 33 refl $ forget ! 35 refl $ forget ! 37 refl $ forget ! 39 refl $ forget ! 41 refl $ forget ! 43 refl $ forget ! 45 refl $ forget ! 47 refl $
@@ -222,8 +201,7 @@ module _ {M : Type 1} (𝓤 : URA M) (H : Heap 𝓤) (A : Atoms 𝓤) (W : Given
   parse-in-walks C Λ fm known-copy known-parse = walked 𝓤 H A parse-in.ended stayed (parse-in.clauses 𝓤 H A mem run) (WpFn 𝓤 H C Λ code.function) (λ κs. (slice-vals, (slice-vals, (uint-vals w32, (slice-vals, (slice-vals, tt))))))
       (λ κs. (shr-slice-tells (named 0) (κs .0) T.the-row, (mut-slice-tells (named 1) (κs .1 .0) u8, (uint-tells w32, (mut-slice-tells (named 2) (κs .1 .1 .0) u32, (mut-slice-tells (named 3) (κs .1 .1 .1 .0) u32, tt))))))
       (λ κs qs bounds a g are. needs 𝓤 _ _
-      (λ roomy. walk 𝓤 H A W mem run (κs .0) (κs .1 .0) (κs .1 .1 .0) (κs .1 .1 .1 .0) (qs .0) (qs .1 .0) (qs .1 .1 .0) (qs .1 .1 .1 .0) (a .0 .ptr .0) (a .0 .ptr .1) (a .0 .name) (a .0 .now) (a .1 .0 .ptr .0) (a .1 .0 .ptr .1) (a .1 .0 .name) (a .1 .0 .now) (a .1 .1 .0)
-      (a .1 .1 .1 .0 .ptr .0) (a .1 .1 .1 .0 .ptr .1) (a .1 .1 .1 .0 .name) (a .1 .1 .1 .0 .now) (a .1 .1 .1 .1 .0 .ptr .0) (a .1 .1 .1 .1 .0 .ptr .1) (a .1 .1 .1 .1 .0 .name) (a .1 .1 .1 .1 .0 .now) (are .1 .1 .0 .1)
+      (λ roomy. walk 𝓤 H A W mem run (κs .0) (κs .1 .0) (κs .1 .1 .0) (κs .1 .1 .1 .0) (qs .0) (qs .1 .0) (qs .1 .1 .0) (qs .1 .1 .1 .0) (a .0) (a .1 .0) (a .1 .1 .0) (a .1 .1 .1 .0) (a .1 .1 .1 .1 .0) (are .1 .1 .0 .1)
       C Λ fm known-copy known-parse (are .0 .0 .1) (are .1 .0 .0 .1) (are .1 .1 .1 .0 .0 .1) (are .1 .1 .1 .1 .0 .0 .1) roomy))
 
 parse-in-meets : {M : Type 1} (𝓤 : URA M) (H : Heap 𝓤) (A : Atoms 𝓤) → Given 𝓤 H A → (mem : Memory → SProp 𝓤) (run : Routine → Fun 𝓤) (𝓣 : Tables 𝓤 H) → Triple 𝓤 (𝓣 .C #structs·copy) (Copy 𝓤 H A mem run) → Triple 𝓤 (𝓣 .C #structs·parse-records) (Parse 𝓤 H A mem run)

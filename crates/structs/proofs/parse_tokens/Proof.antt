@@ -37,7 +37,7 @@ use denote.Slice.{sliceTy, sliceVal, ShrSlice, MutSlice, Room, slice-vals, shr-s
 use denote.Signature.{plain}
 use denote.Steps.{nothing, owned, peeks, heard}
 use denote.Struct.Laws as LL
-use denote.Triple.Entry.{Vals, onEntry}
+use denote.Triple.Entry.{Args, Vals, onEntry}
 use denote.Triple.Spec.{Meets, tripleOf}
 use denote.Triple.Statement.{Contract, Triple}
 use denote.Triple.Call.{calls-at}
@@ -52,6 +52,7 @@ use Rattle.grammar.specs.Answers.{Answers}
 use Rattle.structs.specs.Structs.{recordsOf}
 use Rattle.structs.specs.declared.Token.{Token}
 use Rattle.structs.proofs.StructLaws.{too-many}
+use Rattle.structs.proofs.Again.{slice}
 use Rattle.structs.proofs.BigConstant.{big}
 use Rattle.structs.proofs.OwnArray.{zeros, machine, bytes, lent-at, owns-zeros, typed-zeros, lends-array, array-back}
 use Rattle.structs.proofs.Token as T
@@ -110,55 +111,37 @@ refused-val = vstruct (vcons (vint w32 2) (vcons (vint w64 65536) (vcons (vint w
 refused-is : Is R.the-row refused (refused-val ∷ [])
 refused-is = LL.owes R.the-type R′.the-laws refused ((refl, lit< tt), ((refl, lit< tt), ((refl, lit< tt), ((refl, lit< tt), tt))))
 
-module _ {M : Type 1} (𝓤 : URA M) (H : Heap 𝓤) (A : Atoms 𝓤) (W : Given 𝓤 H A) (mem : Memory → SProp 𝓤) (run : Routine → Fun 𝓤) (κ₁ κ₂ κ₃ : Lft) (q₁ q₂ q₃ : Share) (b₁ o₁ : ℕ) (γ₁ : GName) (ys : List Token)
-    (base : ℕ) (b₂ o₂ : ℕ) (γ₂ : GName) (es : List ℕ) (b₃ o₃ : ℕ) (γ₃ : GName) (rs : List ℕ) (gb : base < 2 ^ 32) where
+module _ {M : Type 1} (𝓤 : URA M) (H : Heap 𝓤) (A : Atoms 𝓤) (W : Given 𝓤 H A) (mem : Memory → SProp 𝓤) (run : Routine → Fun 𝓤) (κ₁ κ₂ κ₃ : Lft) (q₁ q₂ q₃ : Share)
+    (tokens : RefT (List Token)) (base : ℕ) (events errors : RefT (List ℕ)) (gb : base < 2 ^ 32) where
   abbrev n : ℕ
-  n = length ys
+  n = length (tokens .now)
 
-  abbrev ts : RefT (List Token)
-  ts = record { ptr = (b₁, o₁); name = γ₁; now = ys }
-
-  abbrev ex : RefT (List ℕ)
-  ex = record { ptr = (b₂, o₂); name = γ₂; now = es }
-
-  abbrev fx : RefT (List ℕ)
-  fx = record { ptr = (b₃, o₃); name = γ₃; now = rs }
-
-  abbrev s₁ : Val
-  s₁ = sliceVal (b₁, o₁) n
-
-  abbrev s₂ : Val
-  s₂ = sliceVal (b₂, o₂) (length es)
-
-  abbrev s₃ : Val
-  s₃ = sliceVal (b₃, o₃) (length rs)
-
-  abbrev a : RefT (List Token) × (ℕ × (RefT (List ℕ) × (RefT (List ℕ) × Unit {0})))
-  a = (ts, (base, (ex, (fx, tt))))
+  abbrev a : Args parse-tokens.signature (κ₁, (κ₂, (κ₃, tt)))
+  a = (tokens, (base, (events, (errors, tt))))
 
   abbrev at : Vals parse-tokens.signature (κ₁, (κ₂, (κ₃, tt)))
-  at = (s₁ ∷ [], (vint w32 base ∷ [], (s₂ ∷ [], (s₃ ∷ [], tt))))
+  at = (slice tokens ∷ [], (vint w32 base ∷ [], (slice events ∷ [], (slice errors ∷ [], tt))))
 
   abbrev Post : Val → SProp 𝓤
   Post = walkOf 𝓤 H A parse-tokens.ended stayed (parse-tokens.clauses 𝓤 H A mem run) .post (((κ₁, (κ₂, (κ₃, tt))), (q₁, (q₂, (q₃, tt))), tt, a, at), tt)
 
   abbrev Ts : Fml
-  Ts = ShrSlice (named 0) κ₁ T.the-row .own ts (s₁ ∷ [])
+  Ts = ShrSlice (named 0) κ₁ T.the-row .own tokens (slice tokens ∷ [])
 
   abbrev Ev : Fml
-  Ev = MutSlice (named 1) κ₂ u32 .own ex (s₂ ∷ [])
+  Ev = MutSlice (named 1) κ₂ u32 .own events (slice events ∷ [])
 
   abbrev Er : Fml
-  Er = MutSlice (named 2) κ₃ u32 .own fx (s₃ ∷ [])
+  Er = MutSlice (named 2) κ₃ u32 .own errors (slice errors ∷ [])
 
   -- what the contract says of the answer and of both buffers
   abbrev Said : List ℕ → List ℕ → Answer → Type 0
-  Said es′ rs′ r = Answers documentEntry (recordsOf ys) base es rs es′ rs′ r
+  Said es′ rs′ r = Answers documentEntry (recordsOf (tokens .now)) base (events .now) (errors .now) es′ rs′ r
 
-  exits : (r : Answer) (w : Val) (es′ rs′ : List ℕ) → Said es′ rs′ r → length es′ ≡ length es → length rs′ ≡ length rs
-      → ent 𝓤 (⋆ 𝓤 H A (‵ (flft κ₁ q₁) ∷ (‵ (flft κ₂ q₂) ⊛ ‵ (flft κ₃ q₃) ⊛ ‵ ftrue) ∷ ‵ Ts ∷ ‵ (finally u32 γ₂ es′) ∷ ‵ (finally u32 γ₃ rs′) ∷ ‵ (R.the-row .own r (w ∷ [])) ∷ [])) (Post w)
+  exits : (r : Answer) (w : Val) (es′ rs′ : List ℕ) → Said es′ rs′ r → length es′ ≡ length (events .now) → length rs′ ≡ length (errors .now)
+      → ent 𝓤 (⋆ 𝓤 H A (‵ (flft κ₁ q₁) ∷ (‵ (flft κ₂ q₂) ⊛ ‵ (flft κ₃ q₃) ⊛ ‵ ftrue) ∷ ‵ Ts ∷ ‵ (finally u32 (events .name) es′) ∷ ‵ (finally u32 (errors .name) rs′) ∷ ‵ (R.the-row .own r (w ∷ [])) ∷ [])) (Post w)
   exits r w es′ rs′ e l₂ l₃ =
-      qed W (‵ (flft κ₁ q₁) ∷ (‵ (flft κ₂ q₂) ⊛ ‵ (flft κ₃ q₃) ⊛ ‵ ftrue) ∷ ‵ Ts ∷ ‵ (finally u32 γ₂ es′) ∷ ‵ (finally u32 γ₃ rs′) ∷ ‵ (R.the-row .own r (w ∷ [])) ∷ []) ∵
+      qed W (‵ (flft κ₁ q₁) ∷ (‵ (flft κ₂ q₂) ⊛ ‵ (flft κ₃ q₃) ⊛ ‵ ftrue) ∷ ‵ Ts ∷ ‵ (finally u32 (events .name) es′) ∷ ‵ (finally u32 (errors .name) rs′) ∷ ‵ (R.the-row .own r (w ∷ [])) ∷ []) ∵
       suffices ! _ (ends-at 𝓤 H A parse-tokens.ended stayed (parse-tokens.clauses 𝓤 H A mem run) W (((κ₁, (κ₂, (κ₃, tt))), (q₁, (q₂, (q₃, tt))), tt, a, at), tt) w r (tt, (tt, (es′, (rs′, tt)))) (tt, (tt, (l₂, (l₃, tt))))) $
       says ! e $
       join ! $ nothing ! $ move ! (4 ∷ 0 ∷ []) $ fjoin ! $ move ! (3 ∷ 0 ∷ []) $ fjoin ! $ owned ! u32 (Is u32) (uint-makes 𝓤 H A W w32) base _ (refl, gb) $ fjoin ! $
@@ -183,19 +166,19 @@ module _ {M : Type 1} (𝓤 : URA M) (H : Heap 𝓤) (A : Atoms 𝓤) (W : Given
     Lent ν δ = MutSlice (named 1) (ν ∷ []) u8 .own (rx δ) (sr ∷ [])
 
     abbrev to-parse : ℕ → GName → Parse 𝓤 H A mem run .Ghost
-    to-parse ν δ = (((κ₁, (ν ∷ [], (κ₂, (κ₃, tt)))), (q₁, (fullShare, (q₂, (q₃, tt)))), tt, (ts, (rx δ, (base, (ex, (fx, tt))))), (s₁ ∷ [], (sr ∷ [], (vint w32 base ∷ [], (s₂ ∷ [], (s₃ ∷ [], tt)))))), tt)
+    to-parse ν δ = (((κ₁, (ν ∷ [], (κ₂, (κ₃, tt)))), (q₁, (fullShare, (q₂, (q₃, tt)))), tt, (tokens, (rx δ, (base, (events, (errors, tt))))), (slice tokens ∷ [], (sr ∷ [], (vint w32 base ∷ [], (slice events ∷ [], (slice errors ∷ [], tt)))))), tt)
 
     goes-parse : 6 * n ≤ length xs → (ν : ℕ) (δ : GName)
         → ent 𝓤 (sep 𝓤 (sep 𝓤 (A .lft κ₁ q₁) (sep 𝓤 (A .lft (ν ∷ []) fullShare) (sep 𝓤 (A .lft κ₂ q₂) (A .lft κ₃ q₃)))) (sep 𝓤 (sep 𝓤 (sem 𝓤 H A Ts) (sem 𝓤 H A (Lent ν δ))) (sep 𝓤 (sem 𝓤 H A Ev) (sem 𝓤 H A Er)))) (Parse 𝓤 H A mem run .pre (to-parse ν δ))
     goes-parse roomy ν δ =
         qed W ((‵ (flft κ₁ q₁) ⊛ ‵ (flft (ν ∷ []) fullShare) ⊛ ‵ (flft κ₂ q₂) ⊛ ‵ (flft κ₃ q₃)) ∷ (‵ Ts ⊛ ‵ (Lent ν δ)) ∷ (‵ Ev ⊛ ‵ Er) ∷ []) ∵ says ! roomy $
         split ! $ move ! (1 ∷ []) $ split ! $ move ! (1 ∷ []) $ split ! $
-        -- [κ₂; κ₃; ν; κ₁; ts and records; both buffers]
+        -- [κ₂; κ₃; ν; κ₁; tokens and records; both buffers]
         nothing ! $ move ! (2 ∷ 0 ∷ []) $ join ! $ move ! (1 ∷ 0 ∷ []) $ join ! $ move ! (1 ∷ 0 ∷ []) $ join ! $ move ! (1 ∷ 0 ∷ []) $ join ! $ frame ! $
         move ! (1 ∷ []) $ split ! $ nothing ! $ move ! (2 ∷ 0 ∷ []) $ fjoin ! $ move ! (1 ∷ 0 ∷ []) $ fjoin ! $ owned ! u32 (Is u32) (uint-makes 𝓤 H A W w32) base _ (refl, gb) $ fjoin ! $
         move ! (1 ∷ []) $ split ! $ move ! (1 ∷ 2 ∷ []) $ fjoin ! $ move ! (1 ∷ 0 ∷ []) $ fjoin ! $ done !
 
-  module _ (C : Calls 𝓤 H) (Λ : Loops 𝓤 H) (fm : FmC 𝓤 H (W .laws) C) (known : Triple 𝓤 (C #structs·parse-in) (Parse 𝓤 H A mem run)) (gn : Room T.the-row n) (ge : Room u32 (length es)) (gr : Room u32 (length rs)) where
+  module _ (C : Calls 𝓤 H) (Λ : Loops 𝓤 H) (fm : FmC 𝓤 H (W .laws) C) (known : Triple 𝓤 (C #structs·parse-in) (Parse 𝓤 H A mem run)) (gn : Room T.the-row n) (ge : Room u32 (length (events .now))) (gr : Room u32 (length (errors .now))) where
     module _ (l₀ l₁ l₂ l₃ l₄ l₅ l₆ l₇ l₈ l₉ l₁₀ l₁₁ l₁₂ l₁₃ : ℕ) where
       abbrev En : Env 𝓤 H
       En = (R′.mir, l₀) ∷ (S1, l₁) ∷ (tyInt w32, l₂) ∷ (S2, l₃) ∷ (S3, l₄) ∷ (bytes N, l₅) ∷ (tyInt w64, l₆) ∷ (tyBool, l₇) ∷ (tyRef erased mut (bytes N), l₈) ∷ (sliceTy (tyRef erased mut (tyInt w8)), l₉) ∷ (W1, l₁₀) ∷ (W2, l₁₁) ∷ (W1, l₁₂) ∷ (W2, l₁₃) ∷ []
@@ -205,8 +188,8 @@ module _ {M : Type 1} (𝓤 : URA M) (H : Heap 𝓤) (A : Atoms 𝓤) (W : Given
           → Sq W (‵ (Array u8 N .own xs (av ∷ [])) ∷ ‵ (flft κ₃ q₃) ∷ ‵ (flft κ₂ q₂) ∷ ‵ (flft κ₁ q₁) ∷ ‵ Er ∷ ‵ Ev ∷ ‵ Ts ∷
           ‵ (froom W2 l₁₃ 0) ∷ ‵ (fdies W2 l₁₃) ∷ ‵ (froom W1 l₁₂ 0) ∷ ‵ (fdies W1 l₁₂) ∷ ‵ (froom W2 l₁₁ 0) ∷ ‵ (fdies W2 l₁₁) ∷ ‵ (froom W1 l₁₀ 0) ∷
           ‵ (fdies W1 l₁₀) ∷ ‵ (froom (sliceTy (tyRef erased mut (tyInt w8))) l₉ 0) ∷ ‵ (fdies (sliceTy (tyRef erased mut (tyInt w8))) l₉) ∷ ‵ (froom (tyRef erased mut (bytes N)) l₈ 0) ∷ ‵ (fdies (tyRef erased mut (bytes N)) l₈) ∷ ‵ (fat fullShare tyBool l₇ 0 (vbool t)) ∷ ‵ (fdies tyBool l₇) ∷
-          ‵ (fat fullShare (tyInt w64) l₆ 0 (vint w64 n)) ∷ ‵ (fdies (tyInt w64) l₆) ∷ ‵ (fat fullShare (bytes N) l₅ 0 av) ∷ ‵ (fdies (bytes N) l₅) ∷ ‵ (fat fullShare S3 l₄ 0 s₃) ∷ ‵ (fdies S3 l₄) ∷ ‵ (fat fullShare S2 l₃ 0 s₂) ∷
-          ‵ (fdies S2 l₃) ∷ ‵ (fat fullShare (tyInt w32) l₂ 0 (vint w32 base)) ∷ ‵ (fdies (tyInt w32) l₂) ∷ ‵ (fat fullShare S1 l₁ 0 s₁) ∷ ‵ (fdies S1 l₁) ∷ ‵ (froom R′.mir l₀ 0) ∷ ‵ (fdies R′.mir l₀) ∷ []) (runs C Λ En piece.t-5 (atRet En Post))
+          ‵ (fat fullShare (tyInt w64) l₆ 0 (vint w64 n)) ∷ ‵ (fdies (tyInt w64) l₆) ∷ ‵ (fat fullShare (bytes N) l₅ 0 av) ∷ ‵ (fdies (bytes N) l₅) ∷ ‵ (fat fullShare S3 l₄ 0 (slice errors)) ∷ ‵ (fdies S3 l₄) ∷ ‵ (fat fullShare S2 l₃ 0 (slice events)) ∷
+          ‵ (fdies S2 l₃) ∷ ‵ (fat fullShare (tyInt w32) l₂ 0 (vint w32 base)) ∷ ‵ (fdies (tyInt w32) l₂) ∷ ‵ (fat fullShare S1 l₁ 0 (slice tokens)) ∷ ‵ (fdies S1 l₁) ∷ ‵ (froom R′.mir l₀ 0) ∷ ‵ (fdies R′.mir l₀) ∷ []) (runs C Λ En piece.t-5 (atRet En Post))
       parses t xs av roomy =
           assigns ! (addr ! (from ! (stop !))) (from ! (stop !)) (init ! 17 refl (tt, tt)) $
           assigns ! (agg ! (and-then ! (load ! (from ! (stop !)) (look ! 17 refl)) (and-then ! (big ! (record { fits = lit< tt })) (no-more !)))) (from ! (stop !)) (init ! 15 refl (tt, (tt, (record { fits = lit< tt }, tt)))) $
@@ -216,38 +199,38 @@ module _ {M : Type 1} (𝓤 : URA M) (H : Heap 𝓤) (A : Atoms 𝓤) (W : Given
           assigns ! (agg ! (and-then ! (load ! (from ! (stop !)) (look ! 9 refl)) (and-then ! (load ! (from ! (fld ! refl (stop !))) (look-in ! 25 (sub ! 1 refl (whole !)))) (no-more !)))) (from ! (stop !)) (init ! 7 refl (tt, (tt, (record { fits = gr .0 }, tt)))) $
           lft-new ! tt (λ ν. move ! (24 ∷ 1 ∷ []) $
           use2 W (later (some (λ (δ : GName). ‵ (Lent l₅ xs av ν δ) ⊛ ‵ (flent (ν ∷ []) (Held u8 N l₅ 0 δ))))) (lends-array N 𝓤 H A W (named 1) (ν ∷ []) l₅ xs av N-room) $ await ! tt $ pick ! (λ δ. split ! $
-          -- [the array lent; what comes back; ν; κ₃; κ₂; κ₁; errors; events; ts; _13; …]
-          move ! (8 ∷ []) $ use1 W (‵ Ts ⊛ ‵ Ts) (shr-slice-copy 𝓤 H A W (named 0) κ₁ T.the-row .twice ts (s₁ ∷ [])) $ split ! $
+          -- [the array lent; what comes back; ν; κ₃; κ₂; κ₁; errors; events; tokens; _13; …]
+          move ! (8 ∷ []) $ use1 W (‵ Ts ⊛ ‵ Ts) (shr-slice-copy 𝓤 H A W (named 0) κ₁ T.the-row .twice tokens (slice tokens ∷ [])) $ split ! $
           move ! (6 ∷ 5 ∷ []) $ join ! $ move ! (5 ∷ 0 ∷ []) $ join ! $ move ! (5 ∷ 0 ∷ []) $ join ! $ move ! (6 ∷ 5 ∷ []) $ join ! $ move ! (2 ∷ 4 ∷ []) $ join ! $ move ! (2 ∷ 0 ∷ 1 ∷ []) $
           use3 W (raw (Parse 𝓤 H A mem run .pre (to-parse l₅ xs av ν δ))) (goes-parse l₅ xs av roomy ν δ) $
-          -- [the call's pre; ts; what comes back; _13; …; _6; …; what frees _5; _4; …]
+          -- [the call's pre; tokens; what comes back; _13; …; _6; …; what frees _5; _4; …]
           calls-at ! fm (Parse 𝓤 H A mem run) known (to-parse l₅ xs av ν δ) (and-then ! (load ! (from ! (stop !)) (look ! 26 refl)) (and-then ! (load ! (from ! (stop !)) (look ! 11 refl)) (and-then ! (load ! (from ! (stop !)) (look ! 24 refl))
           (and-then ! (load ! (from ! (stop !)) (look ! 7 refl)) (and-then ! (load ! (from ! (stop !)) (look ! 3 refl)) (no-more !)))))) (λ v.
-          use1 W (later (some (λ (p : Answer). ((‵ (flft κ₁ q₁) ⊛ ‵ (flft (ν ∷ []) fullShare) ⊛ ‵ (flft κ₂ q₂) ⊛ ‵ (flft κ₃ q₃) ⊛ ‵ ftrue) ⊛ ‵ (R.the-row .own p (v ∷ []))) ⊛ raw (ensured 𝓤 H A parse-in.ended (parse-in.clauses 𝓤 H A mem run) (κ₁, (ν ∷ [], (κ₂, (κ₃, tt)))) (ts, (rx l₅ xs av δ, (base, (ex, (fx, tt))))) tt p)))) (id⊢ 𝓤 _) $ await ! tt $ pick ! (λ p.
-          split ! $ move ! (1 ∷ []) $ use1 W (some (λ (us : Unit {0} × (List ℕ × (Unit {0} × (List ℕ × (List ℕ × Unit {0}))))). ‵ (lasts parse-in.ended (κ₁, (ν ∷ [], (κ₂, (κ₃, tt)))) (ts, (rx l₅ xs av δ, (base, (ex, (fx, tt))))) us) ⊛ raw (fact 𝓤 (Said (us .1 .1 .1 .0) (us .1 .1 .1 .1 .0) p)))) (id⊢ 𝓤 _) $ pick ! (λ us.
+          use1 W (later (some (λ (p : Answer). ((‵ (flft κ₁ q₁) ⊛ ‵ (flft (ν ∷ []) fullShare) ⊛ ‵ (flft κ₂ q₂) ⊛ ‵ (flft κ₃ q₃) ⊛ ‵ ftrue) ⊛ ‵ (R.the-row .own p (v ∷ []))) ⊛ raw (ensured 𝓤 H A parse-in.ended (parse-in.clauses 𝓤 H A mem run) (κ₁, (ν ∷ [], (κ₂, (κ₃, tt)))) (tokens, (rx l₅ xs av δ, (base, (events, (errors, tt))))) tt p)))) (id⊢ 𝓤 _) $ await ! tt $ pick ! (λ p.
+          split ! $ move ! (1 ∷ []) $ use1 W (some (λ (us : Unit {0} × (List ℕ × (Unit {0} × (List ℕ × (List ℕ × Unit {0}))))). ‵ (lasts parse-in.ended (κ₁, (ν ∷ [], (κ₂, (κ₃, tt)))) (tokens, (rx l₅ xs av δ, (base, (events, (errors, tt))))) us) ⊛ raw (fact 𝓤 (Said (us .1 .1 .1 .0) (us .1 .1 .1 .1 .0) p)))) (id⊢ 𝓤 _) $ pick ! (λ us.
           split ! $ move ! (1 ∷ []) $ heard ! (Said (us .1 .1 .1 .0) (us .1 .1 .1 .1 .0) p) (λ e. fsplit ! $ move ! (1 ∷ []) $ fsplit ! $ fsplit ! $ move ! (1 ∷ []) $ feqL ! (λ k₁. move ! (1 ∷ []) $ fsplit ! $ move ! (1 ∷ []) $ fsplit ! $ fsplit ! $ move ! (1 ∷ []) $ feqL ! (λ k₂.
           move ! (1 ∷ []) $ fsplit ! $ fsplit ! $ move ! (1 ∷ []) $ feqL ! (λ k₃.
-          -- [errors' last list; true; events'; …; the array's; …; the tokens and the result; ts; what comes back; _13; …]
+          -- [errors' last list; true; events'; …; the array's; …; the lifetimes and the result; tokens; what comes back; _13; …]
           move ! (6 ∷ []) $ split ! $ move ! (1 ∷ []) $ peeks ! R.the-row (Is R.the-row) (shows 𝓤 H A R.the-row) p (v ∷ []) (λ js.
           land ! (from ! (stop !)) (init ! 35 refl (LL.lawful R.the-type R′.the-laws 𝓤 H A W .typed p _ js .0)) $
           move ! (1 ∷ []) $ split ! $ move ! (1 ∷ []) $ split ! $ lft-end ! tt $ move ! (0 ∷ 11 ∷ 8 ∷ []) $
           use3 W (later (‵ (froom (bytes N) l₅ 0))) (array-back N 𝓤 H A W (ν ∷ []) l₅ δ (us .1 .0)) $ await ! tt $
-          -- [_5; κ₂ and κ₃; κ₁; the answer; errors' last list; true; events'; …; …; ts; _13; …]
+          -- [_5; κ₂ and κ₃; κ₁; the answer; errors' last list; true; events'; …; …; tokens; _13; …]
           returns ! (look ! 35 refl) $ forget ! 10 refl $ forget ! 12 refl $ forget ! 14 refl $ forget ! 16 refl $ forget ! 18 refl $ forget ! 20 refl $ forget ! 22 refl $ forget ! 24 refl $ forget ! 27 refl $ forget ! 29 refl $ forget ! 31 refl $ forget ! 33 refl $ forget ! 35 refl $
           move ! (35 ∷ 36 ∷ []) $ free1 ! $ move ! (33 ∷ 34 ∷ []) $ free1 ! $ move ! (31 ∷ 32 ∷ []) $ free1 ! $ move ! (29 ∷ 30 ∷ []) $ free1 ! $ move ! (27 ∷ 28 ∷ []) $ free1 ! $ move ! (0 ∷ 26 ∷ []) $ free1 ! $
           move ! (23 ∷ 24 ∷ []) $ free1 ! $ move ! (21 ∷ 22 ∷ []) $ free1 ! $ move ! (19 ∷ 20 ∷ []) $ free1 ! $ move ! (17 ∷ 18 ∷ []) $ free1 ! $ move ! (15 ∷ 16 ∷ []) $ free1 ! $ move ! (13 ∷ 14 ∷ []) $ free1 ! $ move ! (11 ∷ 12 ∷ []) $ free1 ! $ move ! (9 ∷ 10 ∷ []) $ free1 ! $ free0 ! $
           keep ! (1 ∷ 0 ∷ 8 ∷ 5 ∷ 3 ∷ 2 ∷ []) $ by ! (exits p v (us .1 .1 .1 .0) (us .1 .1 .1 .1 .0) e k₂ k₃)))))))))))
 
-    walk : ent 𝓤 (onEntry 𝓤 H A parse-tokens.signature (κ₁, (κ₂, (κ₃, tt))) (q₁, (q₂, (q₃, tt))) a at) (WpFn 𝓤 H C Λ code.function (s₁ ∷ vint w32 base ∷ s₂ ∷ s₃ ∷ []) Post)
+    walk : ent 𝓤 (onEntry 𝓤 H A parse-tokens.signature (κ₁, (κ₂, (κ₃, tt))) (q₁, (q₂, (q₃, tt))) a at) (WpFn 𝓤 H C Λ code.function (slice tokens ∷ vint w32 base ∷ (slice events) ∷ (slice errors) ∷ []) Post)
     walk =
         qed W ((‵ (flft κ₁ q₁) ⊛ ‵ (flft κ₂ q₂) ⊛ ‵ (flft κ₃ q₃) ⊛ ‵ ftrue) ∷ ‵ (owns (ShrSlice (named 0) κ₁ T.the-row ∷ u32 ∷ MutSlice (named 1) κ₂ u32 ∷ MutSlice (named 2) κ₃ u32 ∷ []) a at) ∷ []) ∵
-        enter ! C Λ code.function (s₁ ∷ vint w32 base ∷ s₂ ∷ s₃ ∷ []) _ $
+        enter ! C Λ code.function (slice tokens ∷ vint w32 base ∷ (slice events) ∷ (slice errors) ∷ []) _ $
         alloc1 ! (λ l₀. alloc1 ! (λ l₁. alloc1 ! (λ l₂. alloc1 ! (λ l₃. alloc1 ! (λ l₄. alloc1 ! (λ l₅. alloc1 ! (λ l₆. alloc1 ! (λ l₇. alloc1 ! (λ l₈. alloc1 ! (λ l₉. alloc1 ! (λ l₁₀. alloc1 ! (λ l₁₁. alloc1 ! (λ l₁₂. alloc1 ! (λ l₁₃. alloc0 ! $ params1 ! $
         pass1 ! (init ! 24 refl (tt, (tt, (record { fits = gn .0 }, tt)))) $ pass1 ! (init ! 22 refl (tt, record { fits = gb })) $ pass1 ! (init ! 20 refl (tt, (tt, (record { fits = ge .0 }, tt)))) $ pass1 ! (init ! 18 refl (tt, (tt, (record { fits = gr .0 }, tt)))) $ pass0 ! $
         move ! (29 ∷ []) $ fsplit ! $ move ! (1 ∷ []) $ fsplit ! $ move ! (1 ∷ []) $ fsplit ! $ move ! (1 ∷ []) $ fsplit ! $
-        -- [errors; true; events; base; ts; _13; …; the tokens]
+        -- [errors; true; events; base; tokens; _13; …; the lifetimes]
         move ! (33 ∷ []) $ split ! $ move ! (1 ∷ []) $ split ! $ move ! (1 ∷ []) $ split ! $
-        -- [κ₃; true; κ₂; κ₁; errors; true; events; base; ts; _13; …]
+        -- [κ₃; true; κ₂; κ₁; errors; true; events; base; tokens; _13; …]
         keep ! (0 ∷ 2 ∷ 3 ∷ 4 ∷ 6 ∷ 8 ∷ 9 ∷ 10 ∷ 11 ∷ 12 ∷ 13 ∷ 14 ∷ 15 ∷ 16 ∷ 17 ∷ 18 ∷ 19 ∷ 20 ∷ 21 ∷ 22 ∷ 23 ∷ 24 ∷ 25 ∷ 26 ∷ 27 ∷ 28 ∷ 29 ∷ 30 ∷ 31 ∷ 32 ∷ 33 ∷ 34 ∷ 35 ∷ 36 ∷ []) $
         assigns ! (of-opd ! (load ! (from ! (fld ! refl (stop !))) (look-in ! 30 (sub ! 1 refl (whole !))))) (from ! (stop !)) (init ! 20 refl (tt, record { fits = gn .0 })) $
         assigns ! (bin ! (big ! (record { fits = lit< tt })) (load ! (from ! (stop !)) (look ! 20 refl)) tt) (from ! (stop !)) (init ! 18 refl (tt, tt)) $
@@ -256,10 +239,10 @@ module _ {M : Type 1} (𝓤 : URA M) (H : Heap 𝓤) (A : Atoms 𝓤) (W : Given
         (λ many. assigns ! (agg ! (and-then ! (lit ! tt) (and-then ! (big ! (record { fits = lit< tt })) (and-then ! (lit ! tt) (and-then ! (lit ! tt) (no-more !)))))) (from ! (stop !)) (init ! 32 refl (tt, (record { fits = lit< tt }, (record { fits = lit< tt }, (record { fits = lit< tt }, (record { fits = lit< tt }, tt)))))) $
         returns-within ! Post refl (look ! 32 refl) $ forget ! 18 refl $ forget ! 20 refl $ forget ! 24 refl $ forget ! 26 refl $ forget ! 28 refl $ forget ! 30 refl $ forget ! 32 refl $
         move ! (32 ∷ 33 ∷ []) $ free1 ! $ move ! (30 ∷ 31 ∷ []) $ free1 ! $ move ! (28 ∷ 29 ∷ []) $ free1 ! $ move ! (26 ∷ 27 ∷ []) $ free1 ! $ move ! (24 ∷ 25 ∷ []) $ free1 ! $ move ! (22 ∷ 23 ∷ []) $ free1 ! $ move ! (20 ∷ 21 ∷ []) $ free1 ! $ move ! (18 ∷ 19 ∷ []) $ free1 ! $ move ! (16 ∷ 17 ∷ []) $ free1 ! $ move ! (14 ∷ 15 ∷ []) $ free1 ! $ move ! (12 ∷ 13 ∷ []) $ free1 ! $ move ! (10 ∷ 11 ∷ []) $ free1 ! $ move ! (8 ∷ 9 ∷ []) $ free1 ! $ move ! (6 ∷ 7 ∷ []) $ free1 ! $ free0 ! $
-        move ! (3 ∷ []) $ use1 W (‵ (finally u32 γ₃ rs)) (untouched 2 κ₃ fx (s₃ ∷ [])) $ move ! (4 ∷ []) $ use1 W (‵ (finally u32 γ₂ es)) (untouched 1 κ₂ ex (s₂ ∷ [])) $
+        move ! (3 ∷ []) $ use1 W (‵ (finally u32 (errors .name) (errors .now))) (untouched 2 κ₃ errors (slice errors ∷ [])) $ move ! (4 ∷ []) $ use1 W (‵ (finally u32 (events .name) (events .now))) (untouched 1 κ₂ events (slice events ∷ [])) $
         nothing ! $ move ! (3 ∷ 0 ∷ []) $ join ! $ move ! (3 ∷ 0 ∷ []) $ join ! $ owned ! R.the-row (Is R.the-row) (LL.makes R.the-type R′.the-plain 𝓤 H A) refused (refused-val ∷ []) refused-is $
-        -- [the answer; κ₂ and κ₃; events' last list; errors'; κ₁; ts]
-        keep ! (4 ∷ 1 ∷ 5 ∷ 2 ∷ 3 ∷ 0 ∷ []) $ by ! (exits refused refused-val es rs (too-many ys base es rs (omega (arith, ltb→lt _ n many))) refl refl))
+        -- [the answer; κ₂ and κ₃; events' last list; errors'; κ₁; tokens]
+        keep ! (4 ∷ 1 ∷ 5 ∷ 2 ∷ 3 ∷ 0 ∷ []) $ by ! (exits refused refused-val (events .now) (errors .now) (too-many (tokens .now) base (events .now) (errors .now) (omega (arith, ltb→lt _ n many))) refl refl))
         -- the array is made
         (λ few. skips ! $ exec ! C Λ (En l₀ l₁ l₂ l₃ l₄ l₅ l₆ l₇ l₈ l₉ l₁₀ l₁₁ l₁₂ l₁₃) piece.t-4 (atRet (En l₀ l₁ l₂ l₃ l₄ l₅ l₆ l₇ l₈ l₉ l₁₀ l₁₁ l₁₂ l₁₃) Post) $
         use0 W (‵ (Array u8 N .own (zeros N) (machine N ∷ []))) (owns-zeros N 𝓤 H A W) $ peeks ! (Array u8 N) (Is (Array u8 N)) (shows 𝓤 H A (Array u8 N)) (zeros N) (machine N ∷ []) (λ is.
@@ -271,8 +254,7 @@ module _ {M : Type 1} (𝓤 : URA M) (H : Heap 𝓤) (A : Atoms 𝓤) (W : Given
   parse-tokens-walks C Λ fm known = walked 𝓤 H A parse-tokens.ended stayed (parse-tokens.clauses 𝓤 H A mem run) (WpFn 𝓤 H C Λ code.function) (λ κs. (slice-vals, (uint-vals w32, (slice-vals, (slice-vals, tt)))))
       (λ κs. (shr-slice-tells (named 0) (κs .0) T.the-row, (uint-tells w32, (mut-slice-tells (named 1) (κs .1 .0) u32, (mut-slice-tells (named 2) (κs .1 .1 .0) u32, tt)))))
       (λ κs qs bounds a g are. via 𝓤 _ (fst∗ 𝓤 _ (emp 𝓤))
-      (walk 𝓤 H A W mem run (κs .0) (κs .1 .0) (κs .1 .1 .0) (qs .0) (qs .1 .0) (qs .1 .1 .0) (a .0 .ptr .0) (a .0 .ptr .1) (a .0 .name) (a .0 .now) (a .1 .0)
-      (a .1 .1 .0 .ptr .0) (a .1 .1 .0 .ptr .1) (a .1 .1 .0 .name) (a .1 .1 .0 .now) (a .1 .1 .1 .0 .ptr .0) (a .1 .1 .1 .0 .ptr .1) (a .1 .1 .1 .0 .name) (a .1 .1 .1 .0 .now) (are .1 .0 .1)
+      (walk 𝓤 H A W mem run (κs .0) (κs .1 .0) (κs .1 .1 .0) (qs .0) (qs .1 .0) (qs .1 .1 .0) (a .0) (a .1 .0) (a .1 .1 .0) (a .1 .1 .1 .0) (are .1 .0 .1)
       C Λ fm known (are .0 .0 .1) (are .1 .1 .0 .0 .1) (are .1 .1 .1 .0 .0 .1)))
 
 parse-tokens-meets : {M : Type 1} (𝓤 : URA M) (H : Heap 𝓤) (A : Atoms 𝓤) → Given 𝓤 H A → (mem : Memory → SProp 𝓤) (run : Routine → Fun 𝓤) (𝓣 : Tables 𝓤 H) → Triple 𝓤 (𝓣 .C #structs·parse-in) (Parse 𝓤 H A mem run)
