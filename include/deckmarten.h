@@ -24,4 +24,14 @@ struct deckmarten_answer deckmarten_parse_simple_key(const uint8_t *records, siz
 struct deckmarten_answer deckmarten_parse_value(const uint8_t *records, size_t bytes, uint32_t base, uint32_t *events,
                                                 size_t event_words, uint32_t *errors, size_t error_words);
 
+/* A token: its length in bytes, and the number of its kind. */
+struct deckmarten_token {
+    uint32_t length;
+    uint16_t kind;
+};
+
+/* The document entry over a list of so many token structs: it answers as for their records. It needs 393,216 bytes of stack for these. */
+struct deckmarten_answer deckmarten_parse_tokens(const struct deckmarten_token *tokens, size_t count, uint32_t base, uint32_t *events,
+                                                 size_t event_words, uint32_t *errors, size_t error_words);
+
 #endif
