@@ -52,7 +52,7 @@ fn number(encoding: Option<Encoding>) -> u32 {
 
 /// The functions of events that carry a span alone, with their numbers.
 macro_rules! plain_events {
-    ($($name:ident $number:literal)*) => {
+    ($($name:ident $number:literal),*) => {
         $(fn $name(&mut self, span: Span, _error: &mut dyn ErrorSink) {
             self.put($number, 0, span);
         })*
@@ -60,21 +60,9 @@ macro_rules! plain_events {
 }
 
 impl EventReceiver for Events<'_> {
-    plain_events! {
-        std_table_open 1
-        std_table_close 2
-        array_table_open 3
-        array_table_close 4
-        key_sep 6
-        key_val_sep 7
-        value_sep 9
-        array_close 11
-        inline_table_close 13
-        whitespace 14
-        comment 15
-        newline 16
-        error 17
-    }
+    plain_events!(std_table_open 1, std_table_close 2, array_table_open 3, array_table_close 4);
+    plain_events!(key_sep 6, key_val_sep 7, value_sep 9, array_close 11, inline_table_close 13);
+    plain_events!(whitespace 14, comment 15, newline 16, error 17);
 
     fn simple_key(&mut self, span: Span, kind: Option<Encoding>, _error: &mut dyn ErrorSink) {
         self.put(5, number(kind), span);
