@@ -1,13 +1,144 @@
-/* The four entries of libdeckmarten.a. docs/LAYOUT.md says what every byte of the records and every word of the buffers means.
- * Any records, base and room may be given: what is wrong with them is a refusal in the answer. The records and the two buffers
- * must not overlap, and none of the pointers may be null, even where the length is 0. */
+/* libdeckmarten.a for C: the entries, and a name for every number that goes in or comes out. docs/USING.md shows how to use
+ * it, docs/LAYOUT.md says what every byte of the records and every word of the buffers means. bindings/check-numbers holds the names
+ * and numbers here to that page. */
 #ifndef DECKMARTEN_H
 #define DECKMARTEN_H
 
 #include <stddef.h>
 #include <stdint.h>
 
-/* The refusal's number (0 if none), its place, and how many events and errors there are. */
+/* What goes beyond a limit is refused; the limit itself is allowed. */
+enum deckmarten_limit {
+    DECKMARTEN_LIMIT_RECORDS = 65536,  /* token records in a list */
+    DECKMARTEN_LIMIT_DEPTH = 64,       /* arrays and inline tables open at once */
+    DECKMARTEN_LIMIT_BYTES = 16777216, /* of `base`, and of the end of each token */
+};
+
+enum deckmarten_size {
+    DECKMARTEN_SIZE_RECORD = 6, /* bytes of a token record: length, 4 bytes, then kind, 2 bytes, both least first */
+    DECKMARTEN_SIZE_EVENT = 4,  /* words of an event: kind, encoding, start, end */
+    DECKMARTEN_SIZE_ERROR = 6,  /* words of an error: message, expected, context start and end, unexpected start and end */
+};
+
+/* Words that are enough for the events and the errors of so many records. */
+#define DECKMARTEN_EVENT_WORDS(records) ((size_t)DECKMARTEN_SIZE_EVENT * 3 * (records))
+#define DECKMARTEN_ERROR_WORDS(records) ((size_t)DECKMARTEN_SIZE_ERROR * (2 * (size_t)(records) + 1))
+
+/* Kinds of tokens. A token has at least one byte, but for Eof, which has none. */
+enum deckmarten_kind {
+    DECKMARTEN_KIND_DOT = 1,                  /* `.`, one byte */
+    DECKMARTEN_KIND_EQUALS = 2,               /* `=`, one byte */
+    DECKMARTEN_KIND_COMMA = 3,                /* `,`, one byte */
+    DECKMARTEN_KIND_LEFT_SQUARE_BRACKET = 4,  /* `[`, one byte */
+    DECKMARTEN_KIND_RIGHT_SQUARE_BRACKET = 5, /* `]`, one byte */
+    DECKMARTEN_KIND_LEFT_CURLY_BRACKET = 6,   /* `{`, one byte */
+    DECKMARTEN_KIND_RIGHT_CURLY_BRACKET = 7,  /* `}`, one byte */
+    DECKMARTEN_KIND_WHITESPACE = 8,           /* spaces and tabs */
+    DECKMARTEN_KIND_COMMENT = 9,              /* `#` and what follows it, without the line's end */
+    DECKMARTEN_KIND_NEWLINE = 10,             /* the line's end */
+    DECKMARTEN_KIND_LITERAL_STRING = 11,      /* '..' */
+    DECKMARTEN_KIND_BASIC_STRING = 12,        /* ".." */
+    DECKMARTEN_KIND_ML_LITERAL_STRING = 13,   /* '''..''', over several lines */
+    DECKMARTEN_KIND_ML_BASIC_STRING = 14,     /* """..""", over several lines */
+    DECKMARTEN_KIND_ATOM = 15,                /* a run of other bytes: a bare key, a number, a date, a word */
+    DECKMARTEN_KIND_EOF = 16,                 /* the end of the text, no byte */
+};
+
+/* Kinds of events. An empty span is something that was invented, or a bracket that was given up. */
+enum deckmarten_event {
+    DECKMARTEN_EVENT_STD_TABLE_OPEN = 1,      /* `[` of a table header */
+    DECKMARTEN_EVENT_STD_TABLE_CLOSE = 2,     /* `]` of a table header */
+    DECKMARTEN_EVENT_ARRAY_TABLE_OPEN = 3,    /* `[[` of an array table header */
+    DECKMARTEN_EVENT_ARRAY_TABLE_CLOSE = 4,   /* `]]` of an array table header */
+    DECKMARTEN_EVENT_SIMPLE_KEY = 5,          /* one part of a key */
+    DECKMARTEN_EVENT_KEY_SEP = 6,             /* `.` between key parts */
+    DECKMARTEN_EVENT_KEY_VAL_SEP = 7,         /* `=` between key and value */
+    DECKMARTEN_EVENT_SCALAR = 8,              /* a value that is no array and no inline table */
+    DECKMARTEN_EVENT_VALUE_SEP = 9,           /* `,` between values or pairs */
+    DECKMARTEN_EVENT_ARRAY_OPEN = 10,         /* `[` of an array */
+    DECKMARTEN_EVENT_ARRAY_CLOSE = 11,        /* `]` of an array, or where an array or inline table was given up */
+    DECKMARTEN_EVENT_INLINE_TABLE_OPEN = 12,  /* `{` of an inline table */
+    DECKMARTEN_EVENT_INLINE_TABLE_CLOSE = 13, /* `}` of an inline table, or the Eof where it was given up */
+    DECKMARTEN_EVENT_WHITESPACE = 14,         /* a Whitespace token */
+    DECKMARTEN_EVENT_COMMENT = 15,            /* a Comment token */
+    DECKMARTEN_EVENT_NEWLINE = 16,            /* a Newline token */
+    DECKMARTEN_EVENT_ERROR = 17,              /* a token that has no place where it stands */
+};
+
+/* How a key part or a scalar is written. It is 0 for all other events. */
+enum deckmarten_encoding {
+    DECKMARTEN_ENCODING_NONE = 0,              /* not quoted, or nothing is there */
+    DECKMARTEN_ENCODING_LITERAL_STRING = 1,    /* '..' */
+    DECKMARTEN_ENCODING_BASIC_STRING = 2,      /* ".." */
+    DECKMARTEN_ENCODING_ML_LITERAL_STRING = 3, /* '''..''', over several lines */
+    DECKMARTEN_ENCODING_ML_BASIC_STRING = 4,   /* """..""", over several lines */
+};
+
+/* Messages of errors. */
+enum deckmarten_message {
+    DECKMARTEN_MESSAGE_UNCLOSED_ARRAY_TABLE = 1,                     /* a single `]`, or none, after `[[` and a key */
+    DECKMARTEN_MESSAGE_UNCLOSED_TABLE = 2,                           /* no `]` after `[` and a key */
+    DECKMARTEN_MESSAGE_INVALID_TABLE = 3,                            /* the list ends in a header before a key part */
+    DECKMARTEN_MESSAGE_INVALID_KEY = 4,                              /* at the key entries: no key part, or a multi-line string */
+    DECKMARTEN_MESSAGE_KEY_WITH_NO_VALUE = 5,                        /* a line's key is not followed by `=` */
+    DECKMARTEN_MESSAGE_MISSING_VALUE_FOR_KEY = 6,                    /* the same, the line starting with `.` */
+    DECKMARTEN_MESSAGE_UNCLOSED_ARRAY = 7,                           /* the text ends in an array */
+    DECKMARTEN_MESSAGE_EXTRA_COMMA_IN_ARRAY = 8,                     /* `,` where an array wants a value */
+    DECKMARTEN_MESSAGE_UNEXPECTED_EQUALS_IN_ARRAY = 9,               /* `=` in an array */
+    DECKMARTEN_MESSAGE_MISSING_COMMA_BETWEEN_ARRAY_ELEMENTS = 10,    /* a value or bracket where an array wants a comma */
+    DECKMARTEN_MESSAGE_MISSING_INLINE_TABLE_OPENING = 11,            /* `}` in an array, or where a value is wanted */
+    DECKMARTEN_MESSAGE_COMMENTS_ARE_UNSUPPORTED_IN_INLINE_TABLES = 12, /* a Comment in an inline table */
+    DECKMARTEN_MESSAGE_NEWLINES_ARE_UNSUPPORTED_IN_INLINE_TABLES = 13, /* a Newline in an inline table */
+    DECKMARTEN_MESSAGE_UNCLOSED_INLINE_TABLE = 14,                   /* the text ends in an inline table */
+    DECKMARTEN_MESSAGE_EXTRA_COMMA_IN_INLINE_TABLE = 15,             /* `,` where a key, `=` or a value is wanted */
+    DECKMARTEN_MESSAGE_EXTRA_ASSIGNMENT_BETWEEN_KEY_VALUE_PAIRS = 16, /* `=` where a value or a comma is wanted */
+    DECKMARTEN_MESSAGE_MISSING_KEY_FOR_INLINE_TABLE_ELEMENT = 17,    /* `[` or `{` where a key or a comma is wanted */
+    DECKMARTEN_MESSAGE_MISSING_ASSIGNMENT_BETWEEN_KEY_VALUE_PAIRS = 18, /* a value where `=` is wanted */
+    DECKMARTEN_MESSAGE_TRAILING_COMMAS_ARE_NOT_SUPPORTED_IN_INLINE_TABLES = 19, /* `}` after a comma, a key or `=` */
+    DECKMARTEN_MESSAGE_INVALID_INLINE_TABLE_ELEMENT = 20,            /* `]` where a key, `=` or a comma is wanted */
+    DECKMARTEN_MESSAGE_MISSING_ARRAY_OPENING = 21,                   /* `]` where a value is wanted, outside an array */
+    DECKMARTEN_MESSAGE_MISSING_COMMA_BETWEEN_KEY_VALUE_PAIRS = 22,   /* a key where an inline table wants a comma */
+    DECKMARTEN_MESSAGE_UNEXPECTED_KEY_OR_VALUE = 23,                 /* more on the line after a header or a value */
+    DECKMARTEN_MESSAGE_UNEXPECTED_CONTENT_BETWEEN_COMMENT_AND_NEWLINE = 24, /* a token right after a Comment */
+    DECKMARTEN_MESSAGE_UNEXPECTED_CONTENT = 25,                      /* a token where an entry is finished */
+    DECKMARTEN_MESSAGE_INVALID_KEY_VALUE_PAIR = 26,                  /* a line starts with `,`, `{` or `}` */
+    DECKMARTEN_MESSAGE_MISSING_TABLE_OPEN = 27,                      /* a line starts with `]` */
+    DECKMARTEN_MESSAGE_MISSING_VALUE = 28,                           /* the list ends where a value is wanted */
+    DECKMARTEN_MESSAGE_EXTRA_EQUALS = 29,                            /* `=` where a value is wanted */
+};
+
+/* What was expected at the place of an error. */
+enum deckmarten_expected {
+    DECKMARTEN_EXPECTED_NOTHING = 1,                       /* no hint is given */
+    DECKMARTEN_EXPECTED_RIGHT_SQUARE_BRACKET = 2,          /* `]` */
+    DECKMARTEN_EXPECTED_TWO_RIGHT_SQUARE_BRACKETS = 3,     /* `]]` */
+    DECKMARTEN_EXPECTED_KEY = 4,                           /* a key */
+    DECKMARTEN_EXPECTED_EQUALS = 5,                        /* `=` */
+    DECKMARTEN_EXPECTED_VALUE = 6,                         /* a value */
+    DECKMARTEN_EXPECTED_VALUE_OR_RIGHT_SQUARE_BRACKET = 7, /* a value, or `]` */
+    DECKMARTEN_EXPECTED_COMMA = 8,                         /* `,` */
+    DECKMARTEN_EXPECTED_LEFT_CURLY_BRACKET = 9,            /* `{` */
+    DECKMARTEN_EXPECTED_RIGHT_CURLY_BRACKET = 10,          /* `}` */
+    DECKMARTEN_EXPECTED_NEWLINE_OR_HASH = 11,              /* the line's end, or a comment's `#` */
+    DECKMARTEN_EXPECTED_NEWLINE = 12,                      /* the line's end */
+    DECKMARTEN_EXPECTED_LEFT_SQUARE_BRACKET = 13,          /* `[` */
+    DECKMARTEN_EXPECTED_LITERAL_STRING_BASIC_STRING_OR_UNQUOTED_STRING = 14, /* a key part that is no multi-line string */
+};
+
+/* Refusals. The place is the number of a record, from 0, where nothing else is said; at NONE it is 0. */
+enum deckmarten_refusal {
+    DECKMARTEN_REFUSAL_NONE = 0,           /* the list was read to its end */
+    DECKMARTEN_REFUSAL_PARTIAL_RECORD = 1, /* the byte length is no multiple of 6; place: whole records */
+    DECKMARTEN_REFUSAL_RECORDS = 2,        /* more than 65,536 records; place: 65,536 */
+    DECKMARTEN_REFUSAL_KIND = 3,           /* a kind outside 1 to 16 */
+    DECKMARTEN_REFUSAL_LENGTH = 4,         /* a length wrong for its kind */
+    DECKMARTEN_REFUSAL_BYTES = 5,          /* `base`, or a record's end, above 16,777,216; place: 0 for `base` */
+    DECKMARTEN_REFUSAL_DEPTH = 6,          /* a 65th array or inline table would be open */
+    DECKMARTEN_REFUSAL_EVENTS = 7,         /* the events do not fit; place: 0 */
+    DECKMARTEN_REFUSAL_ERRORS = 8,         /* the errors do not fit; place: 0 */
+};
+
+/* The refusal's number, its place, and how many events and errors there are, stored or not. */
 struct deckmarten_answer {
     uint32_t refusal;
     size_t place;
@@ -15,6 +146,9 @@ struct deckmarten_answer {
     size_t errors;
 };
 
+/* A document, a dotted key, one part of a key, and a value. Any records, base and room may be given: what is wrong with them is a
+ * refusal in the answer. `bytes` counts bytes, `event_words` and `error_words` count words. The records and the two buffers must not
+ * overlap, and no pointer may be null, even where its length is 0. */
 struct deckmarten_answer deckmarten_parse_document(const uint8_t *records, size_t bytes, uint32_t base, uint32_t *events,
                                                    size_t event_words, uint32_t *errors, size_t error_words);
 struct deckmarten_answer deckmarten_parse_key(const uint8_t *records, size_t bytes, uint32_t base, uint32_t *events,
@@ -23,5 +157,16 @@ struct deckmarten_answer deckmarten_parse_simple_key(const uint8_t *records, siz
                                                      size_t event_words, uint32_t *errors, size_t error_words);
 struct deckmarten_answer deckmarten_parse_value(const uint8_t *records, size_t bytes, uint32_t base, uint32_t *events,
                                                 size_t event_words, uint32_t *errors, size_t error_words);
+
+/* A token as a structure. Its kind is to be one of enum deckmarten_kind. */
+struct deckmarten_token {
+    uint32_t length;
+    uint16_t kind;
+};
+
+/* A document whose tokens are structures. The answer and both buffers are those of deckmarten_parse_document for records of the same
+ * lengths and kinds; the same is owed. The records are made on the stack, which takes 384 KiB of it. */
+struct deckmarten_answer deckmarten_parse_tokens(const struct deckmarten_token *tokens, size_t count, uint32_t base, uint32_t *events,
+                                                 size_t event_words, uint32_t *errors, size_t error_words);
 
 #endif

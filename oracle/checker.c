@@ -1,7 +1,7 @@
 /* The checker of ./differ: reads frames from its input (src/frame.rs says what they are), calls the library on each list, and compares
  * the answer and every word of both buffers with what the oracle gave: document.rs compiled unchanged over stand-ins for the files
- * that are not here. Stops at the first difference and prints it. Ends with 0 if nothing differs, 1 if something does, 2 if the
- * frames are not whole. */
+ * that are not here. Some lists go to the document entry a second time, as token structs. Stops at the first difference and prints
+ * it. Ends with 0 if nothing differs, 1 if something does, 2 if the frames are not whole. */
 #include <inttypes.h>
 #include <stdio.h>
 #include <stdlib.h>
@@ -16,6 +16,10 @@
 #define BORDER 8
 /* Bytes that are read at a time. */
 #define CHUNK (1 << 20)
+/* One list in so many is compared as structs too, and each long one: the call clears 393,216 bytes first, which takes an emulator
+ * about a millisecond. It is odd, so that lists with ample room and with little come in turn. */
+#define STRUCTS_EACH 499
+#define LONG 6000
 
 struct frame {
     uint32_t entry, base, bytes, event_room, error_room;
@@ -34,9 +38,9 @@ struct room {
     size_t size;
 };
 
-static struct room input, event_room, error_room;
+static struct room input, event_room, error_room, token_room;
 static size_t start, end; /* of what was read into `input` and not yet taken */
-static uint64_t cases, refused[9];
+static uint64_t cases, documents, as_structs, refused[9];
 static uint32_t seen_events, seen_messages; /* a bit for each kind of event and each message that occurred */
 
 static _Noreturn void broken(const char *what) {
@@ -98,12 +102,25 @@ static void print_words(const uint32_t *words, size_t count) {
     }
 }
 
+/* The token structs of so many records. What lies between them is not 0. */
+static const struct deckmarten_token *structs_of(const uint8_t *bytes, size_t count) {
+    struct deckmarten_token *tokens;
+    grow(&token_room, (count + 1) * sizeof *tokens);
+    memset(token_room.at, 0xA5, (count + 1) * sizeof *tokens);
+    tokens = (struct deckmarten_token *)token_room.at;
+    for (size_t i = 0; i < count; i++) {
+        memcpy(&tokens[i].length, bytes + 6 * i, 4);
+        memcpy(&tokens[i].kind, bytes + 6 * i + 4, 2);
+    }
+    return tokens;
+}
+
 /* Prints the case, what the library gave and what was expected. */
-static _Noreturn void differs(const struct frame *f, const uint8_t *bytes, const uint32_t *wanted, struct deckmarten_answer a,
+static _Noreturn void differs(const struct frame *f, const char *what, const uint8_t *bytes, const uint32_t *wanted, struct deckmarten_answer a,
                               const uint32_t *events, const uint32_t *errors) {
     printf("differs %" PRIu64 " %s %u %u %u x:", cases, names[f->entry], f->base, f->event_room, f->error_room);
     for (size_t i = 0; i < f->bytes; i++) printf("%02x", bytes[i]);
-    printf("\nlibrary:     %u %zu %zu %zu", a.refusal, a.place, a.events, a.errors);
+    printf("\n%s %u %zu %zu %zu", what, a.refusal, a.place, a.events, a.errors);
     print_words(events, f->event_room);
     print_words(errors, f->error_room);
     printf("\ndocument.rs: %u %u %u %u", f->refusal, f->place, f->events, f->errors);
@@ -114,6 +131,24 @@ static _Noreturn void differs(const struct frame *f, const uint8_t *bytes, const
     exit(1);
 }
 
+/* Stops unless the answer and both buffers are as expected. */
+static void compare(const struct frame *f, const char *what, const uint8_t *bytes, const uint32_t *wanted, struct deckmarten_answer a,
+                    const uint32_t *events, const uint32_t *errors) {
+    if (a.refusal != f->refusal || a.place != f->place || a.events != f->events || a.errors != f->errors ||
+        !holds(events, f->event_room, wanted, f->event_words) ||
+        !holds(errors, f->error_room, wanted + f->event_words, f->error_words))
+        differs(f, what, bytes, wanted, a, events, errors);
+}
+
+/* The same list as token structs, at the document entry. */
+static void check_structs(const struct frame *f, const uint8_t *bytes, const uint32_t *wanted) {
+    size_t count = f->bytes / 6;
+    uint32_t *events = fresh(&event_room, f->event_room), *errors = fresh(&error_room, f->error_room);
+    compare(f, "by structs: ", bytes, wanted,
+            deckmarten_parse_tokens(structs_of(bytes, count), count, f->base, events, f->event_room, errors, f->error_room), events, errors);
+    as_structs++;
+}
+
 static void check_case(void) {
     struct frame f;
     memcpy(&f, take(sizeof f), sizeof f);
@@ -122,11 +157,8 @@ static void check_case(void) {
     const uint8_t *bytes = take(whole + 4 * ((size_t)f.event_words + f.error_words));
     const uint32_t *wanted = (const uint32_t *)(bytes + whole);
     uint32_t *events = fresh(&event_room, f.event_room), *errors = fresh(&error_room, f.error_room);
-    struct deckmarten_answer a = entries[f.entry](bytes, f.bytes, f.base, events, f.event_room, errors, f.error_room);
-    if (a.refusal != f.refusal || a.place != f.place || a.events != f.events || a.errors != f.errors ||
-        !holds(events, f.event_room, wanted, f.event_words) ||
-        !holds(errors, f.error_room, wanted + f.event_words, f.error_words))
-        differs(&f, bytes, wanted, a, events, errors);
+    compare(&f, "library:    ", bytes, wanted, entries[f.entry](bytes, f.bytes, f.base, events, f.event_room, errors, f.error_room), events, errors);
+    if (f.entry == 0 && f.bytes % 6 == 0 && (documents++ % STRUCTS_EACH == 0 || f.bytes > LONG)) check_structs(&f, bytes, wanted);
     for (size_t i = 0; i < f.event_words; i += 4) seen_events |= 1u << wanted[i] % 32;
     for (size_t i = 0; i < f.error_words; i += 6) seen_messages |= 1u << wanted[f.event_words + i] % 32;
     cases++;
@@ -142,7 +174,7 @@ static void show_note(void) {
 static int finish(void) {
     uint64_t low = word(), sent = low | (uint64_t)word() << 32;
     if (sent != cases) broken("another number of lists was sent");
-    printf("same %" PRIu64 " %u %u", cases, seen_events, seen_messages);
+    printf("same %" PRIu64 " %" PRIu64 " %u %u", cases, as_structs, seen_events, seen_messages);
     for (int i = 0; i < 9; i++) printf(" %" PRIu64, refused[i]);
     printf("\n");
     return 0;

@@ -21,6 +21,19 @@ pub struct Case {
     pub bytes: Vec<u8>,
 }
 
+impl Case {
+    /// The list at an entry, its room still to be chosen.
+    pub fn at(entry: Entry, base: u32, bytes: Vec<u8>) -> Self {
+        Self {
+            entry,
+            base,
+            event_words: 0,
+            error_words: 0,
+            bytes,
+        }
+    }
+}
+
 /// The case in a line, or what is wrong with the line.
 pub fn parse(line: &str) -> Result<Case, String> {
     let mut words = line.split_ascii_whitespace();

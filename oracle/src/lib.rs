@@ -11,6 +11,7 @@ extern crate self as winnow;
 
 pub mod batch;
 pub mod decoder;
+pub mod feeding;
 pub mod frame;
 pub mod generate;
 pub mod lexer;

@@ -1,4 +1,5 @@
-// The four entries for programs in C and Rust. A slice passes as a pointer and a length, the answer as a C structure.
+// The four entries, and the document entry over token structs, for programs in C and Rust. A slice passes as a pointer and a length, a struct
+// as a C structure.
 pub mod answer;
 
 use crate::answer::ExportedAnswer;
@@ -7,7 +8,10 @@ use grammar::entries::parse_document;
 use grammar::entries::parse_key;
 use grammar::entries::parse_simple_key;
 use grammar::entries::parse_value;
+use structs::Token;
+use structs::parse_tokens;
 ghost use Rattle.rules.specs.Entries.{documentEntry, keyEntry, simpleKeyEntry, valueEntry};
+ghost use Rattle.structs.specs.Structs.{recordsOf};
 ghost use Rattle.deckmarten.specs.Exported.{Exports};
 
 #[no_mangle]
@@ -59,5 +63,18 @@ pub extern "C" fn deckmarten_parse_value(
     ensures { λ r. ⌜ Exports valueEntry (now (s .entry)) base (now (events .entry)) (now (errors .entry)) (now (events .exit)) (now (errors .exit)) r ⌝ }
 {
     let r = parse_value(s, base, events, errors);
+    exported(r)
+}
+
+#[no_mangle]
+pub extern "C" fn deckmarten_parse_tokens(
+    tokens: &[Token],
+    base: u32,
+    events: &mut [u32],
+    errors: &mut [u32],
+) -> ExportedAnswer
+    ensures { λ r. ⌜ Exports documentEntry (recordsOf (now (tokens .entry))) base (now (events .entry)) (now (errors .entry)) (now (events .exit)) (now (errors .exit)) r ⌝ }
+{
+    let r = parse_tokens(tokens, base, events, errors);
     exported(r)
 }

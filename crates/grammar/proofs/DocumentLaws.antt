@@ -13,10 +13,10 @@ use Rattle.rules.specs.declared.document.InDocument.{InDocument}
 use Rattle.rules.specs.Out.{Out, done, _then_}
 use Rattle.rules.specs.Turns.{turns}
 use Rattle.rules.specs.Document.{inDocument, documentStep, documentTurn}
-use Rattle.lines.specs.Pour.{Bufs, bufs, pour}
-use Rattle.lines.specs.Walks.{End, run}
-use Rattle.lines.specs.WalkLaws.{rule-at, then-on}
-use Rattle.lines.specs.TurnLaws.{Turns, onward, turn-same, fewer-left}
+use Rattle.output.specs.Pour.{Bufs, bufs, pour}
+use Rattle.output.specs.Walks.{End, run}
+use Rattle.output.specs.WalkLaws.{rule-at, then-on}
+use Rattle.output.specs.TurnLaws.{Turns, onward, turn-same, fewer-left}
 use Rattle.nest.specs.Nested.{outOf, Nested}
 use Rattle.nest.specs.NestedLaws.{out-on, nested-stop}
 use Rattle.grammar.specs.declared.document.DocumentTurn.{DocumentTurn}
@@ -26,6 +26,10 @@ use Rattle.grammar.specs.Documents.{Stepped}
 pub document-at : (s : List ℕ) (c d : Cursor) (t : Token) → Took s c t d → (x y : InDocument) → x ≡ inDocument (t .kind) → x ≡ y → (levels : ℕ) (loop : Unit {0} → List Tok → Out)
     → documentTurn levels loop tt (tokensAt s c) ≡ documentStep y levels (loop tt) (t .start) (t .end) (tokensAt s d)
 document-at s c d t k x y p q levels loop = rule-at s c d t (documentTurn levels loop tt) inDocument (λ z. documentStep z levels (loop tt) (t .start) (t .end) (tokensAt s d)) x y k refl p q
+
+-- an answer that is made by a function
+pub stepped-as : {s : List ℕ} {rule : (Unit {0} → List Tok → Out) → Out} {c : Cursor} {o : Bufs} {a b : List ℕ} {d d' : DocumentTurn} → d ≡ d' → Stepped s rule c o a b d' → Stepped s rule c o a b d
+stepped-as {s} {rule} {c} {o} {a} {b} e x = subst (λ (z : DocumentTurn). Stepped s rule c o a b z) (sym e) x
 
 module _ (levels : ℕ) {s : List ℕ} {start : Out} {o o₀ : Bufs} {cur cur₀ : Cursor} (inv : Turns s (λ k. turns (documentTurn levels) k tt (tokensAt s cur)) start o o₀ cur cur₀)
     {a b : List ℕ} (d : DocumentTurn) (t : Stepped s (λ loop. documentTurn levels loop tt (tokensAt s cur)) cur o a b d) where

@@ -16,8 +16,8 @@ use Rattle.rules.specs.declared.answer.Answer.{Answer}
 use Rattle.rules.specs.Out.{Out}
 use Rattle.rules.specs.Entries.{Entry, parse}
 use Rattle.rules.specs.Answer.{Outcome, outcome}
-use Rattle.lines.specs.Pour.{Bufs, bufs, pour}
-use Rattle.lines.specs.AnswerLaws.{fresh, outcome-ended, outcome-stopped}
+use Rattle.output.specs.Pour.{Bufs, bufs, pour}
+use Rattle.grammar.proofs.AnswerLaws.{fresh, outcome-ended, outcome-stopped}
 use Rattle.nest.specs.declared.nest.NestWalk.{NestWalk}
 use Rattle.nest.specs.Nested.{outOf, Nested}
 use Rattle.grammar.specs.Answers.{answerBy, answerOf}

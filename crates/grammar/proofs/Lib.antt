@@ -1,3 +1,4 @@
-pub mod GrammarLaws
+pub mod PourLaws
+pub mod AnswerLaws
 pub mod DocumentLaws
 pub mod EntryLaws

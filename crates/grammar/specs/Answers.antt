@@ -10,7 +10,7 @@ use Rattle.rules.specs.Out.{Out, _then_}
 use Rattle.rules.specs.Skipping.{eof}
 use Rattle.rules.specs.Entries.{Entry}
 use Rattle.rules.specs.Answer.{Outcome, outcome, roomRefusal}
-use Rattle.lines.specs.Pour.{Bufs}
+use Rattle.output.specs.Pour.{Bufs}
 use Rattle.nest.specs.declared.nest.NestWalk.{NestWalk}
 use Rattle.nest.specs.Nested.{Nested}
 

@@ -1,23 +1,27 @@
 // The document loop.
-use crate::expression::on_expression_dot;
-use crate::expression::on_expression_key;
-use crate::expression::on_expression_key_val_sep;
-use crate::expression::on_missing_expression_key;
-use crate::expression::on_missing_std_table;
-use crate::table::on_table;
-use lines::emitting::Counts;
-use lines::emitting::emit;
 use lines::skipping::on_comment;
 use nest::nest::NestWalk;
+use nest::nest::unstopped;
+use output::emitting::Counts;
+use output::emitting::Walk;
+use output::emitting::emit;
+use output::emitting::empty_key;
 use rules::document::InDocument;
 use rules::document::in_document;
-use rules::event::Encoding;
 use rules::event::Event;
+use tables::table::on_table;
 use token::cursor::Cursor;
 use token::cursor::Step;
+use values::expression::on_expression_dot;
+use values::expression::on_expression_key;
+use values::expression::on_expression_key_val_sep;
+use values::expression::on_missing_expression_key;
+use values::expression::on_missing_std_table;
+ghost use mathlib.Core.Path.{_≡_};
+ghost use mathlib.Core.Bool.{true, false};
 ghost use Rattle.token.specs.Tokens.{Good, tokensAt};
 ghost use Rattle.rules.specs.Document.{document, documentTurn};
-ghost use Rattle.lines.specs.Pour.{bufs};
+ghost use Rattle.output.specs.Pour.{bufs};
 ghost use Rattle.nest.specs.Nested.{Nested};
 ghost use Rattle.grammar.specs.Documents.{Stepped};
 
@@ -25,6 +29,22 @@ ghost use Rattle.grammar.specs.Documents.{Stepped};
 pub struct DocumentTurn {
     pub walk: NestWalk,
     pub over: bool,
+}
+
+// A turn that was not refused, and is not the last.
+fn going_on(w: Walk) -> DocumentTurn
+    ensures { λ r. ⌜ r ≡ record { walk = record { cur = w .cur; n = w .n; stopped = false }; over = false } ⌝ }
+{
+    let walk = unstopped(w);
+    DocumentTurn { walk, over: false }
+}
+
+// The last turn.
+fn ended(w: Walk) -> DocumentTurn
+    ensures { λ r. ⌜ r ≡ record { walk = record { cur = w .cur; n = w .n; stopped = false }; over = true } ⌝ }
+{
+    let walk = unstopped(w);
+    DocumentTurn { walk, over: true }
 }
 
 // One expression, or what stands where one should.
@@ -41,50 +61,25 @@ fn document_turn(
 {
     let step = c.next(s);
     let Step::Got(t, past) = step else {
-        let walk = NestWalk {
-            cur: c,
-            n: m,
-            stopped: false,
-        };
-        return DocumentTurn { walk, over: true };
+        return ended(Walk { cur: c, n: m });
     };
     let k = t.kind;
     let x = in_document(k);
     match x {
         InDocument::OpenSquare => {
             let w = on_table(s, t, past, m, events, errors);
-            let cur = w.cur;
-            let n = w.n;
-            let walk = NestWalk {
-                cur,
-                n,
-                stopped: false,
-            };
-            DocumentTurn { walk, over: false }
+            going_on(w)
         }
         InDocument::CloseSquare => {
             let w = on_missing_std_table(s, t, past, m, events, errors);
-            let cur = w.cur;
-            let n = w.n;
-            let walk = NestWalk {
-                cur,
-                n,
-                stopped: false,
-            };
-            DocumentTurn { walk, over: false }
+            going_on(w)
         }
         InDocument::Key(e) => {
             let walk = on_expression_key(s, t, e, past, m, levels, events, errors);
             DocumentTurn { walk, over: false }
         }
         InDocument::Equals => {
-            let n = emit(
-                events,
-                m,
-                Event::SimpleKey(Encoding::None),
-                t.start,
-                t.start,
-            );
+            let n = empty_key(events, m, t.start);
             let walk = on_expression_key_val_sep(s, t, past, n, levels, events, errors);
             DocumentTurn { walk, over: false }
         }
@@ -94,52 +89,21 @@ fn document_turn(
         }
         InDocument::Stray => {
             let w = on_missing_expression_key(s, t, past, m, events, errors);
-            let cur = w.cur;
-            let n = w.n;
-            let walk = NestWalk {
-                cur,
-                n,
-                stopped: false,
-            };
-            DocumentTurn { walk, over: false }
+            going_on(w)
         }
         InDocument::Whitespace => {
             let n = emit(events, m, Event::Whitespace, t.start, t.end);
-            let walk = NestWalk {
-                cur: past,
-                n,
-                stopped: false,
-            };
-            DocumentTurn { walk, over: false }
+            going_on(Walk { cur: past, n })
         }
         InDocument::Newline => {
             let n = emit(events, m, Event::Newline, t.start, t.end);
-            let walk = NestWalk {
-                cur: past,
-                n,
-                stopped: false,
-            };
-            DocumentTurn { walk, over: false }
+            going_on(Walk { cur: past, n })
         }
         InDocument::Comment => {
             let w = on_comment(s, t, past, m, events, errors);
-            let cur = w.cur;
-            let n = w.n;
-            let walk = NestWalk {
-                cur,
-                n,
-                stopped: false,
-            };
-            DocumentTurn { walk, over: false }
+            going_on(w)
         }
-        InDocument::Eof => {
-            let walk = NestWalk {
-                cur: past,
-                n: m,
-                stopped: false,
-            };
-            DocumentTurn { walk, over: true }
-        }
+        InDocument::Eof => ended(Walk { cur: past, n: m }),
     }
 }
 

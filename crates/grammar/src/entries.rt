@@ -1,16 +1,17 @@
 // The four entries: record bytes, a base and two lent buffers in; the answer out, and the buffers filled.
 use crate::document::document;
-use crate::value::value;
-use lines::emitting::Counts;
-use lines::keys::key;
-use lines::keys::simple_key;
-use lines::message::INVALID_KEY;
-use lines::skipping::eof;
+use endings::eof::eof;
+use keys::keys::key;
+use keys::keys::simple_key;
 use nest::nest::NestWalk;
+use nest::nest::unstopped;
+use output::emitting::Counts;
+use output::message::INVALID_KEY;
 use rules::answer::Answer;
 use token::check::Checked;
 use token::check::check;
 use token::cursor::Cursor;
+use values::value::value;
 ghost use mathlib.Core.Path.{_≡_};
 ghost use Rattle.token.specs.Tokens.{Good};
 ghost use Rattle.rules.specs.Entries.{documentEntry, keyEntry, simpleKeyEntry, valueEntry};
@@ -31,12 +32,18 @@ fn closing(s: &[u8], v: NestWalk, events: &mut [u32], errors: &mut [u32]) -> Nes
     let behind = v.cur;
     let n = v.n;
     let w = eof(s, behind, n, events, errors);
-    let cur = w.cur;
-    let end = w.n;
-    NestWalk {
-        cur,
-        n: end,
-        stopped: false,
+    unstopped(w)
+}
+
+// An answer with its counts.
+fn counted(refusal: u32, place: usize, n: Counts) -> Answer
+    ensures { λ r. ⌜ r ≡ record { refusal = refusal; place = place; events = n .events; errors = n .errors } ⌝ }
+{
+    Answer {
+        refusal,
+        place,
+        events: n.events,
+        errors: n.errors,
     }
 }
 
@@ -50,42 +57,17 @@ fn answer_of(v: NestWalk, event_room: usize, error_room: usize) -> Answer
         let cur = v.cur;
         let at = cur.at;
         if at == 0 {
-            return Answer {
-                refusal: 6,
-                place: 0,
-                events: n.events,
-                errors: n.errors,
-            };
+            return counted(6, 0, n);
         }
-        return Answer {
-            refusal: 6,
-            place: at - 1,
-            events: n.events,
-            errors: n.errors,
-        };
+        return counted(6, at - 1, n);
     }
     if event_room < n.events {
-        return Answer {
-            refusal: 7,
-            place: 0,
-            events: n.events,
-            errors: n.errors,
-        };
+        return counted(7, 0, n);
     }
     if error_room < n.errors {
-        return Answer {
-            refusal: 8,
-            place: 0,
-            events: n.events,
-            errors: n.errors,
-        };
+        return counted(8, 0, n);
     }
-    Answer {
-        refusal: 0,
-        place: 0,
-        events: n.events,
-        errors: n.errors,
-    }
+    counted(0, 0, n)
 }
 
 pub fn parse_document(s: &[u8], base: u32, events: &mut [u32], errors: &mut [u32]) -> Answer

@@ -1,3 +1,1 @@
 pub mod SkippingLaws
-pub mod KeyLaws
-pub mod ScalarLaws

@@ -1,5 +1,5 @@
 -- The skipping rules, a token at a time. Assumes nothing.
-use mathlib.Core.Path.{_≡_, refl, ap, sym, _∙_}
+use mathlib.Core.Path.{_≡_, refl, ap, _∙_}
 use mathlib.Core.Bool.{Bool, true, false}
 use mathlib.Core.List.{List, [], _∷_}
 use Prim.Native.Nat.{ℕ, zero, suc, _+_, _-_}
@@ -14,11 +14,11 @@ use Rattle.rules.specs.declared.skipping.Bracket.{Bracket}
 use Rattle.rules.specs.declared.skipping.Opened.{Opened}
 use Rattle.rules.specs.Out.{Out, done, _▹_}
 use Rattle.rules.specs.Receiver as receiver
-use Rattle.rules.specs.Skipping.{inLine, inClose, onComment, ignored, behindComment, leftover, leftoverStep, ending, endingStep, wsCommentNewline, eof, eofStep, opened, closeSquare, closeCurly, valueCloseStep, valueCloseTurn}
-use Rattle.lines.specs.declared.emitting.Walk.{Walk}
-use Rattle.lines.specs.Pour.{Bufs, bufs}
-use Rattle.lines.specs.Walks.{run, endOf}
-use Rattle.lines.specs.WalkLaws.{rule-at, at-token, at-end, then-on}
+use Rattle.rules.specs.Skipping.{inLine, inClose, onComment, ignored, behindComment, opened, closeSquare, closeCurly, valueCloseStep, valueCloseTurn}
+use Rattle.output.specs.declared.emitting.Walk.{Walk}
+use Rattle.output.specs.Pour.{Bufs, bufs}
+use Rattle.output.specs.Walks.{run, endOf}
+use Rattle.output.specs.WalkLaws.{at-token, at-end, then-on}
 use Rattle.lines.specs.LineEnd.{lineEnd, lineEndStep}
 
 -- a turn to the end of a line, by the kind first
@@ -41,21 +41,8 @@ module _ (s : List ℕ) (c d : Cursor) (t : Token) (k : Took s c t d) where
   line-step true m = line-by (inLine (t .kind)) m (t .start) (t .end) (tokensAt s d)
   line-step false m = ignored-by (inLine (t .kind)) m (t .start) (t .end) (tokensAt s d)
 
-  -- the end of a line begins at its first token
-  pub ending-start : ending (tokensAt s c) (t .start) ≡ wsCommentNewline (tokensAt s c)
-  ending-start = ap (λ (ts : List Tok). ending ts (t .start)) (k .seen) ∙ sym (ap wsCommentNewline (k .seen))
-
   module _ (x y : InLine) (p : x ≡ inLine (t .kind)) (q : x ≡ y) where
-    pub eof-at : eof (tokensAt s c) ≡ eofStep y (t .start) (t .end) (tokensAt s d)
-    eof-at = rule-at s c d t eof inLine (λ z. eofStep z (t .start) (t .end) (tokensAt s d)) x y k refl p q
-
     module _ (all : List Tok) (o : Bufs) where
-      pub leftover-at : run all (leftover (tokensAt s c)) o ≡ run all (leftoverStep y (t .start) (t .end) (leftover (tokensAt s d))) o
-      leftover-at = at-token all o s c d t leftover inLine (λ z. leftoverStep z (t .start) (t .end) (leftover (tokensAt s d))) x y k refl p q
-
-      pub ending-at : (first : ℕ) → run all (ending (tokensAt s c) first) o ≡ run all (endingStep y first (t .start) (t .end) (tokensAt s d) (ending (tokensAt s d) first)) o
-      ending-at first = at-token all o s c d t (λ ts. ending ts first) inLine (λ z. endingStep z first (t .start) (t .end) (tokensAt s d) (ending (tokensAt s d) first)) x y k refl p q
-
       -- by whether a comment was read, which began at m
       pub line-at : (b b' : Bool) (m : ℕ) → b ≡ b' → run all (lineEnd b m (tokensAt s c)) o ≡ run all (lineEndStep y b' m (t .start) (t .end) (tokensAt s d)) o
       line-at b b' m e =

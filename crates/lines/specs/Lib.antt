@@ -1,11 +1,1 @@
-pub mod Pour
-pub mod Walks
-pub mod WalkLaws
-pub mod TurnLaws
 pub mod LineEnd
-pub mod KeyWalks
-pub mod LookLaws
-pub mod ScalarWalks
-pub mod PourLaws
-pub mod AnswerLaws
-pub mod DotLaws

@@ -1,14 +1,14 @@
 -- How the code goes to the end of a line: the two rules ignore_to_newline and on_comment as one, with a mode. Assumes nothing.
 use mathlib.Core.Bool.{Bool, true, false}
-use mathlib.Core.List.{List}
+use mathlib.Core.List.{List, [], _∷_}
 use Prim.Native.Nat.{ℕ}
 use Rattle.token.specs.Tokens.{Tok}
 use Rattle.rules.specs.declared.skipping.InLine.{InLine}
-use Rattle.rules.specs.Out.{span, before, report, Out, done, _▹_}
+use Rattle.rules.specs.Out.{span, before, Item, report, Out, done, _▹_}
 use Rattle.rules.specs.Messages as message
 use Rattle.rules.specs.Expected as expected
 use Rattle.rules.specs.Receiver as receiver
-use Rattle.rules.specs.Skipping.{ignored, behindComment, ignoreToNewline, afterComment, leftover}
+use Rattle.rules.specs.Skipping.{ignored, behindComment, ignoreToNewline, afterComment}
 
 -- behind a comment that began at c, or not
 abbrev pub lineEnd : Bool → ℕ → List Tok → Out
@@ -26,6 +26,6 @@ lineEndStep InLine.Comment true c a b ts = behindComment InLine.Comment c a b ts
 lineEndStep InLine.Whitespace false c a b ts = ignored InLine.Whitespace a b ts (lineEnd false 0 ts) (lineEnd true a ts)
 lineEndStep InLine.Whitespace true c a b ts = behindComment InLine.Whitespace c a b ts (lineEnd false 0 ts)
 
--- content at a..b behind the end
-abbrev pub unexpected : ℕ → ℕ → List Tok → Out
-unexpected a b ts = report message.unexpectedContent expected.nothing (span a b) (before a b) ▹ receiver.error a b ▹ leftover ts
+-- content at a..b behind a comment that began at c
+abbrev pub contentAfterComment : ℕ → ℕ → ℕ → List Item
+contentAfterComment c a b = report message.contentAfterComment expected.aNewline (span c b) (before a b) ∷ receiver.error a b ∷ []

@@ -1,14 +1,10 @@
-// Skipping and the ends of lines.
-use crate::emitting::Counts;
-use crate::emitting::Walk;
-use crate::emitting::emit;
-use crate::emitting::report;
-use crate::expected::A_NEWLINE;
-use crate::expected::NEWLINE_OR_COMMENT;
-use crate::expected::NOTHING;
-use crate::message::CONTENT_AFTER_COMMENT;
-use crate::message::UNEXPECTED_CONTENT;
-use crate::message::UNEXPECTED_KEY_OR_VALUE;
+// Skipping: to the end of a line, and to a closing bracket.
+use output::emitting::Counts;
+use output::emitting::Walk;
+use output::emitting::emit;
+use output::emitting::report;
+use output::expected::A_NEWLINE;
+use output::message::CONTENT_AFTER_COMMENT;
 use rules::event::Event;
 use rules::skipping::Bracket;
 use rules::skipping::InClose;
@@ -16,14 +12,38 @@ use rules::skipping::InLine;
 use rules::skipping::in_close;
 use rules::skipping::in_line;
 use token::cursor::Cursor;
-use token::cursor::Seen;
 use token::cursor::Step;
 use token::cursor::Token;
-ghost use Rattle.token.specs.Tokens.{Good, tokensAt};
-ghost use Rattle.rules.specs.Skipping.{ignoreToNewline, onComment, ignoreToValueClose, ending, wsCommentNewline, leftover, eof};
-ghost use Rattle.lines.specs.Pour.{bufs};
-ghost use Rattle.lines.specs.Walks.{Goes};
-ghost use Rattle.lines.specs.LineEnd.{lineEnd, unexpected};
+ghost use mathlib.Core.Path.{_≡_};
+ghost use mathlib.Core.List.{List};
+ghost use Rattle.token.specs.Tokens.{Tok, Good, tokensAt};
+ghost use Rattle.rules.specs.Skipping.{ignoreToNewline, onComment, ignoreToValueClose};
+ghost use Rattle.output.specs.Pour.{bufs, pour};
+ghost use Rattle.output.specs.Walks.{Goes};
+ghost use Rattle.lines.specs.LineEnd.{lineEnd, contentAfterComment};
+
+// The token t behind a comment that began at `begin`: a report, and an error event.
+fn content_after_comment(
+    n: Counts,
+    begin: u32,
+    t: Token,
+    events: &mut [u32],
+    errors: &mut [u32],
+) -> Counts
+    ensures { λ r. ⌜ ((all : List Tok) → bufs (now (events .exit)) (now (errors .exit)) r ≡ pour all (contentAfterComment begin (t .start) (t .end)) (bufs (now (events .entry)) (now (errors .entry)) n)) ⌝ }
+{
+    let i = report(
+        errors,
+        n,
+        CONTENT_AFTER_COMMENT,
+        A_NEWLINE,
+        begin,
+        t.end,
+        t.start,
+        t.start,
+    );
+    emit(events, i, Event::Error, t.start, t.end)
+}
 
 // To the end of the line; if `behind`, what comes is behind a comment that began at `begin`. In the Rust ignore_to_newline and
 // on_comment call each other; a list of comments would take a frame each, so here the two are one loop.
@@ -61,17 +81,7 @@ fn to_line_end(
             }
             InLine::Whitespace => {
                 if after {
-                    n = report(
-                        errors,
-                        n,
-                        CONTENT_AFTER_COMMENT,
-                        A_NEWLINE,
-                        start,
-                        t.end,
-                        t.start,
-                        t.start,
-                    );
-                    n = emit(events, n, Event::Error, t.start, t.end);
+                    n = content_after_comment(n, start, t, events, errors);
                     after = false;
                 } else {
                     n = emit(events, n, Event::Whitespace, t.start, t.end);
@@ -79,17 +89,7 @@ fn to_line_end(
             }
             InLine::Comment => {
                 if after {
-                    n = report(
-                        errors,
-                        n,
-                        CONTENT_AFTER_COMMENT,
-                        A_NEWLINE,
-                        start,
-                        t.end,
-                        t.start,
-                        t.start,
-                    );
-                    n = emit(events, n, Event::Error, t.start, t.end);
+                    n = content_after_comment(n, start, t, events, errors);
                     after = false;
                 } else {
                     n = emit(events, n, Event::Comment, t.start, t.end);
@@ -99,17 +99,7 @@ fn to_line_end(
             }
             InLine::Other => {
                 if after {
-                    n = report(
-                        errors,
-                        n,
-                        CONTENT_AFTER_COMMENT,
-                        A_NEWLINE,
-                        start,
-                        t.end,
-                        t.start,
-                        t.start,
-                    );
-                    n = emit(events, n, Event::Error, t.start, t.end);
+                    n = content_after_comment(n, start, t, events, errors);
                     after = false;
                 } else {
                     n = emit(events, n, Event::Error, t.start, t.end);
@@ -231,148 +221,5 @@ pub fn ignore_to_value_close(
                 return Walk { cur, n };
             }
         }
-    }
-}
-
-// Whitespace, then a comment, a newline or the end; anything else is reported and the line is skipped.
-pub fn ws_comment_newline(
-    s: &[u8],
-    c: Cursor,
-    m: Counts,
-    events: &mut [u32],
-    errors: &mut [u32],
-) -> Walk
-    requires { ⌜ Good (now s) c ⌝ }
-    ensures { λ r. ⌜ Goes (now (s .entry)) (wsCommentNewline (tokensAt (now (s .entry)) c)) c (bufs (now (events .entry)) (now (errors .entry)) m) (now (events .exit)) (now (errors .exit)) r ⌝ }
-{
-    let seen = c.peek(s);
-    let Seen::Token(first) = seen else {
-        return Walk { cur: c, n: m };
-    };
-    line_ending(s, c, m, first.start, events, errors)
-}
-
-// The end of a line, of which the first token began at `first`.
-fn line_ending(
-    s: &[u8],
-    c: Cursor,
-    m: Counts,
-    first: u32,
-    events: &mut [u32],
-    errors: &mut [u32],
-) -> Walk
-    requires { ⌜ Good (now s) c ⌝ }
-    ensures { λ r. ⌜ Goes (now (s .entry)) (ending (tokensAt (now (s .entry)) c) first) c (bufs (now (events .entry)) (now (errors .entry)) m) (now (events .exit)) (now (errors .exit)) r ⌝ }
-{
-    let mut cur = c;
-    let mut n = m;
-    loop {
-        let step = cur.next(s);
-        let Step::Got(t, past) = step else {
-            return Walk { cur, n };
-        };
-        cur = past;
-        let k = t.kind;
-        let x = in_line(k);
-        match x {
-            InLine::Other => {
-                n = report(
-                    errors,
-                    n,
-                    UNEXPECTED_KEY_OR_VALUE,
-                    NEWLINE_OR_COMMENT,
-                    first,
-                    t.end,
-                    t.start,
-                    t.start,
-                );
-                n = emit(events, n, Event::Error, t.start, t.end);
-                return ignore_to_newline(s, cur, n, events, errors);
-            }
-            InLine::Comment => {
-                return on_comment(s, t, cur, n, events, errors);
-            }
-            InLine::Whitespace => {
-                n = emit(events, n, Event::Whitespace, t.start, t.end);
-            }
-            InLine::Newline => {
-                n = emit(events, n, Event::Newline, t.start, t.end);
-                return Walk { cur, n };
-            }
-            InLine::Eof => {
-                return Walk { cur, n };
-            }
-        }
-    }
-}
-
-// What is left behind the end: each token but Eof an error event.
-fn errors_to_end(s: &[u8], c: Cursor, m: Counts, events: &mut [u32], errors: &mut [u32]) -> Walk
-    requires { ⌜ Good (now s) c ⌝ }
-    ensures { λ r. ⌜ Goes (now (s .entry)) (leftover (tokensAt (now (s .entry)) c)) c (bufs (now (events .entry)) (now (errors .entry)) m) (now (events .exit)) (now (errors .exit)) r ⌝ }
-{
-    let mut cur = c;
-    let mut n = m;
-    loop {
-        let step = cur.next(s);
-        let Step::Got(t, past) = step else {
-            return Walk { cur, n };
-        };
-        cur = past;
-        let k = t.kind;
-        let x = in_line(k);
-        match x {
-            InLine::Other => {
-                n = emit(events, n, Event::Error, t.start, t.end);
-            }
-            InLine::Comment => {
-                n = emit(events, n, Event::Error, t.start, t.end);
-            }
-            InLine::Whitespace => {
-                n = emit(events, n, Event::Error, t.start, t.end);
-            }
-            InLine::Newline => {
-                n = emit(events, n, Event::Error, t.start, t.end);
-            }
-            InLine::Eof => {}
-        }
-    }
-}
-
-// Content behind the end: the token t.
-fn content(s: &[u8], t: Token, c: Cursor, m: Counts, events: &mut [u32], errors: &mut [u32]) -> Walk
-    requires { ⌜ Good (now s) c ⌝ }
-    ensures { λ r. ⌜ Goes (now (s .entry)) (unexpected (t .start) (t .end) (tokensAt (now (s .entry)) c)) c (bufs (now (events .entry)) (now (errors .entry)) m) (now (events .exit)) (now (errors .exit)) r ⌝ }
-{
-    let i = report(
-        errors,
-        m,
-        UNEXPECTED_CONTENT,
-        NOTHING,
-        t.start,
-        t.end,
-        t.start,
-        t.start,
-    );
-    let n = emit(events, i, Event::Error, t.start, t.end);
-    errors_to_end(s, c, n, events, errors)
-}
-
-pub fn eof(s: &[u8], c: Cursor, m: Counts, events: &mut [u32], errors: &mut [u32]) -> Walk
-    requires { ⌜ Good (now s) c ⌝ }
-    ensures { λ r. ⌜ Goes (now (s .entry)) (eof (tokensAt (now (s .entry)) c)) c (bufs (now (events .entry)) (now (errors .entry)) m) (now (events .exit)) (now (errors .exit)) r ⌝ }
-{
-    let step = c.next(s);
-    let Step::Got(t, past) = step else {
-        return Walk { cur: c, n: m };
-    };
-    let k = t.kind;
-    let x = in_line(k);
-    match x {
-        InLine::Other => content(s, t, past, m, events, errors),
-        InLine::Comment => content(s, t, past, m, events, errors),
-        InLine::Whitespace => content(s, t, past, m, events, errors),
-        InLine::Newline => content(s, t, past, m, events, errors),
-        InLine::Eof => Walk { cur: past, n: m },
     }
 }

@@ -1,3 +1,1 @@
-pub mod TurnLaws
-pub mod ActionLaws
 pub mod NestLaws

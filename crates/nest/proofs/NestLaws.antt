@@ -17,14 +17,14 @@ use Rattle.rules.specs.Turns.{turns, looping}
 use Rattle.rules.specs.Array.{Nest, arrayTurn}
 use Rattle.rules.specs.InlineTable.{progress, inlineTableTurn}
 use Rattle.rules.specs.Nest.{onOpen}
-use Rattle.lines.specs.declared.emitting.Counts.{Counts}
-use Rattle.lines.specs.Pour.{Bufs, bufs, refused, put, pour}
-use Rattle.lines.specs.Walks.{End, run}
-use Rattle.lines.specs.WalkLaws.{then-on}
-use Rattle.lines.specs.TurnLaws.{Turns, onward, turn-same, fewer-left}
-use Rattle.nest.specs.declared.turn.Next.{Next}
+use Rattle.output.specs.declared.emitting.Counts.{Counts}
+use Rattle.output.specs.Pour.{Bufs, bufs, refused, put, pour}
+use Rattle.output.specs.Walks.{End, run}
+use Rattle.output.specs.WalkLaws.{then-on}
+use Rattle.output.specs.TurnLaws.{Turns, onward, turn-same, fewer-left}
+use Rattle.arrays.specs.declared.turn.Next.{Next}
 use Rattle.nest.specs.declared.nest.NestWalk.{NestWalk}
-use Rattle.nest.specs.Turning.{goOn, Further, Turned}
+use Rattle.arrays.specs.Turning.{goOn, Further, Turned}
 use Rattle.nest.specs.Nested.{outOf, Nested}
 use Rattle.nest.specs.NestedLaws.{out-on, nested-on, nested-stop}
 

@@ -1,3 +1,2 @@
-pub mod Turning
 pub mod Nested
 pub mod NestedLaws

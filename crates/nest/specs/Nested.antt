@@ -7,8 +7,8 @@ use lib.ListN.{length}
 use Rattle.token.specs.Tokens.{Tok, allTokens, tokensAt, Good}
 use Rattle.token.specs.declared.cursor.Cursor.{Cursor}
 use Rattle.rules.specs.Out.{Out}
-use Rattle.lines.specs.declared.emitting.Counts.{Counts}
-use Rattle.lines.specs.Pour.{Bufs, bufs, refused, pour}
+use Rattle.output.specs.declared.emitting.Counts.{Counts}
+use Rattle.output.specs.Pour.{Bufs, bufs, refused, pour}
 use Rattle.nest.specs.declared.nest.NestWalk.{NestWalk}
 
 -- the buffers of a walk that may have been refused

@@ -9,11 +9,11 @@ use Rattle.token.specs.Tokens.{Tok, allTokens, tokensAt, Good, Took}
 use Rattle.token.specs.declared.cursor.Token.{Token}
 use Rattle.token.specs.declared.cursor.Cursor.{Cursor}
 use Rattle.rules.specs.Out.{Item, Out, _▹_, _then_}
-use Rattle.lines.specs.declared.emitting.Counts.{Counts}
-use Rattle.lines.specs.declared.emitting.Walk.{Walk}
-use Rattle.lines.specs.Pour.{Bufs, bufs, refused, put, pour}
-use Rattle.lines.specs.Walks.{End, run, Goes}
-use Rattle.lines.specs.WalkLaws.{pour-append, goes-rest}
+use Rattle.output.specs.declared.emitting.Counts.{Counts}
+use Rattle.output.specs.declared.emitting.Walk.{Walk}
+use Rattle.output.specs.Pour.{Bufs, bufs, refused, put, pour}
+use Rattle.output.specs.Walks.{End, run, Goes}
+use Rattle.output.specs.WalkLaws.{pour-append, goes-rest}
 use Rattle.nest.specs.declared.nest.NestWalk.{NestWalk}
 use Rattle.nest.specs.Nested.{outOf, Nested}
 
@@ -36,6 +36,10 @@ out-on s a b n c z false e h = h
 pub nested-goes : {s : List ℕ} {r : Out} {c : Cursor} {o : Bufs} {a b : List ℕ} {w : Walk} → Goes s r c o a b w → Nested s r c o a b (record { cur = w .cur; n = w .n; stopped = false })
 unfolding run
 nested-goes g = record { wrote = λ base q. ap (λ (x : End). x .out) (g .is base q); rest = λ e. goes-rest g; good = g .good; on = g .on; base = g .base }
+
+-- an answer that is made by a function
+pub nested-same : {s : List ℕ} {r : Out} {c : Cursor} {o : Bufs} {a b : List ℕ} {v v' : NestWalk} → v ≡ v' → Nested s r c o a b v' → Nested s r c o a b v
+nested-same {s} {r} {c} {o} {a} {b} e g = subst (λ (x : NestWalk). Nested s r c o a b x) (sym e) g
 
 -- after one item; by an equal rule; past a token that was read
 pub nested-item : {s : List ℕ} {r : Out} {c : Cursor} {o₁ : Bufs} {a b : List ℕ} {v : NestWalk} (i : Item) (o : Bufs) → ((all : List Tok) → o₁ ≡ put all i o) → Nested s r c o₁ a b v → Nested s (i ▹ r) c o a b v

@@ -1,5 +1,2 @@
-// Arrays and inline tables, which open one another. Each function is proved equal to its rule.
-pub mod array;
-pub mod inline_table;
+// Arrays and inline tables that open one another: the one cycle.
 pub mod nest;
-pub mod turn;

@@ -1,18 +1,23 @@
 // Arrays and inline tables open one another; the levels still allowed fall at each opening.
-use crate::array::array_turn;
-use crate::inline_table::inline_table_turn;
-use crate::turn::Next;
-use lines::emitting::Counts;
-use lines::emitting::emit;
+// What is handed to a function lies in memory from then on, so copies are handed on, and the loops' own cursor and counts stay in
+// registers.
+use arrays::array::array_turn;
+use arrays::turn::Next;
+use inline::inline_table::inline_table_turn;
+use output::emitting::Counts;
+use output::emitting::Walk;
+use output::emitting::emit;
 use rules::array::ArrayState;
 use rules::event::Event;
 use rules::inline_table::Progress;
 use rules::inline_table::State;
 use token::cursor::Cursor;
 use token::cursor::Token;
+ghost use mathlib.Core.Path.{_≡_};
+ghost use mathlib.Core.Bool.{false};
 ghost use Rattle.token.specs.Tokens.{Good, tokensAt};
 ghost use Rattle.rules.specs.Nest.{onArrayOpen, onInlineTableOpen};
-ghost use Rattle.lines.specs.Pour.{bufs};
+ghost use Rattle.output.specs.Pour.{bufs};
 ghost use Rattle.nest.specs.Nested.{Nested};
 
 // Where a walk ended, and the counts there; `stopped` says that one more level was refused, just behind its bracket.
@@ -20,6 +25,19 @@ pub struct NestWalk {
     pub cur: Cursor,
     pub n: Counts,
     pub stopped: bool,
+}
+
+// A walk that was not refused.
+pub fn unstopped(w: Walk) -> NestWalk
+    ensures { λ r. ⌜ r ≡ record { cur = w .cur; n = w .n; stopped = false } ⌝ }
+{
+    let cur = w.cur;
+    let n = w.n;
+    NestWalk {
+        cur,
+        n,
+        stopped: false,
+    }
 }
 
 pub fn on_array_open(
@@ -60,7 +78,10 @@ pub fn on_array_open(
                 };
             }
             Next::OpenArray(t) => {
-                let v = on_array_open(s, t, cur, n, levels - 1, events, errors);
+                let list = s;
+                let from = cur;
+                let sofar = n;
+                let v = on_array_open(list, t, from, sofar, levels - 1, events, errors);
                 let stopped = v.stopped;
                 if stopped {
                     return v;
@@ -69,7 +90,10 @@ pub fn on_array_open(
                 n = v.n;
             }
             Next::OpenTable(t) => {
-                let v = on_inline_table_open(s, t, cur, n, levels - 1, events, errors);
+                let list = s;
+                let from = cur;
+                let sofar = n;
+                let v = on_inline_table_open(list, t, from, sofar, levels - 1, events, errors);
                 let stopped = v.stopped;
                 if stopped {
                     return v;
@@ -122,7 +146,10 @@ pub fn on_inline_table_open(
                 };
             }
             Next::OpenArray(t) => {
-                let v = on_array_open(s, t, cur, n, levels - 1, events, errors);
+                let list = s;
+                let from = cur;
+                let sofar = n;
+                let v = on_array_open(list, t, from, sofar, levels - 1, events, errors);
                 let stopped = v.stopped;
                 if stopped {
                     return v;
@@ -131,7 +158,10 @@ pub fn on_inline_table_open(
                 n = v.n;
             }
             Next::OpenTable(t) => {
-                let v = on_inline_table_open(s, t, cur, n, levels - 1, events, errors);
+                let list = s;
+                let from = cur;
+                let sofar = n;
+                let v = on_inline_table_open(list, t, from, sofar, levels - 1, events, errors);
                 let stopped = v.stopped;
                 if stopped {
                     return v;

@@ -25,6 +25,11 @@ checkedFrom zero s i p = Checked.Passed
 checkedFrom (suc n) s i p =
     refusedAt (recordRefusal (kindNumberAt s i) (lengthAt s i) (p + lengthAt s i)) i (checkedFrom n s (suc i) (p + lengthAt s i))
 
+-- whether no record is refused
+abbrev pub passed : Checked → Bool
+passed Checked.Passed = true
+passed (Checked.Refused r i) = false
+
 -- 1, the byte length is no multiple of 6; 2, too many records; 5, the base is beyond the limit; then record by record
 unfoldable pub checked : List ℕ → ℕ → Checked
 checked s base =

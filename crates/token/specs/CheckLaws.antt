@@ -1,14 +1,14 @@
 -- Laws of the check of a list: a turn at a time, and what it lets through. Proved; nothing here needs to be believed.
 use mathlib.Core.Path.{_≡_, refl, ap, sym, subst, _∙_}
-use mathlib.Core.Bool.{Bool, true, false, cond}
+use mathlib.Core.Bool.{Bool, true, false, cond, false≢true}
 use mathlib.Core.List.{List, [], _∷_}
-use Prim.Native.Nat.{ℕ, zero, suc, _+_, _-_, _%_, _<_, _≤_}
+use Prim.Native.Nat.{ℕ, zero, suc, _+_, _-_, _*_, _%_, _<_, _≤_}
 use native.Mathlib.Omega.{arith}
 use native.Mathlib.Numerals.{add-one}
 use native.Mathlib.Nat.{add-zero, add-suc}
 use lib.ListN.{length}
 use lib.Dec.{eqb, ltb, leb}
-use borrow.Author.Tests.{ltb-false, leb-true, eqb-true, eq-eqb, le-ltb}
+use borrow.Author.Tests.{ltb-true, ltb-false, leb-true, leb-false, eqb-true, eq-eqb, le-ltb}
 use Rattle.token.specs.declared.kind.Kind.{Kind}
 use Rattle.token.specs.declared.kind.Width.{Width}
 use Rattle.token.specs.declared.check.Checked.{Checked}
@@ -17,7 +17,7 @@ use Rattle.token.specs.Limits.{maxRecords, maxEnd}
 use Rattle.token.specs.Kinds.{kindOf, widthOf, widthFits}
 use Rattle.token.specs.Records.{count, lengthAt, kindNumberAt, kindAt, startAt}
 use Rattle.token.specs.Tokens.{Tok, tok, tokensFrom, allTokens, Good, At}
-use Rattle.token.specs.Check.{recordRefusal, refusedAt, checkedFrom, checked}
+use Rattle.token.specs.Check.{recordRefusal, refusedAt, checkedFrom, passed, checked}
 use Rattle.token.specs.Laid.{Spans, Laid, laidNone, laidToken}
 
 -- what the check says of record i
@@ -97,6 +97,104 @@ from-most (suc n) s b i h e =
     let z : suc i + n ≡ i + suc n = omega arith in
     rw z at (from-most n s b (suc i) (r .1) (q .1))
 
+-- within the limit a record's end does not matter
+cond-end : (t : Bool) (e : ℕ) → e ≤ maxEnd → _≡_ {A = ℕ} (cond t (cond (ltb maxEnd e) 5 0) 4) (cond t (cond (ltb maxEnd 0) 5 0) 4)
+cond-end true e h = simp (le-ltb _ _ h)
+cond-end false e h = refl
+
+end-within : (k n e : ℕ) → e ≤ maxEnd → recordRefusal k n e ≡ recordRefusal k n 0
+end-within k n e h = ap (λ (x : ℕ). cond (ltb k 1) 3 (cond (ltb 16 k) 3 x)) (cond-end (widthFits (widthOf (kindOf k)) n) e h)
+
+-- record i, asked without regard to its end: what it tells of the check from there on
+module _ (s : List ℕ) (i p r : ℕ) (h : i < count s) (e : r ≡ recordRefusal (kindNumberAt s i) (lengthAt s i) 0) where
+  on-within : r ≡ 0 → p + lengthAt s i ≤ maxEnd → checkedFrom (count s - i) s i p ≡ checkedFrom (count s - (i + 1)) s (i + 1) (p + lengthAt s i)
+  on-within z l = from-passed s i p r h (e ∙ sym (end-within (kindNumberAt s i) (lengthAt s i) (p + lengthAt s i) l)) z
+
+  not-passed : (refusalAt s i p ≡ 0 → ⊥) → passed (checkedFrom (count s - i) s i p) ≡ false
+  not-passed z = ap passed (from-refused s i p (refusalAt s i p) h refl z)
+
+  on-beyond : maxEnd < p + lengthAt s i → passed (checkedFrom (count s - i) s i p) ≡ false
+  on-beyond l = not-passed (λ z. omega (arith, l, record-passed (kindNumberAt s i) (lengthAt s i) (p + lengthAt s i) z .1))
+
+  on-refused : (r ≡ 0 → ⊥) → passed (checkedFrom (count s - i) s i p) ≡ false
+  on-refused z =
+      not-passed
+      (λ y.
+      z
+      (e
+      ∙ sym (end-within (kindNumberAt s i) (lengthAt s i) (p + lengthAt s i) (record-passed (kindNumberAt s i) (lengthAt s i) (p + lengthAt s i) y .1))
+      ∙ y))
+
+-- the records before i passed without regard to their ends, and the last of them ends at `end`
+pub record Summed (s : List ℕ) (end₀ i₀ end i : ℕ) : Type 0 where
+  pub within : end ≤ maxEnd → checkedFrom (count s - i) s i end ≡ checkedFrom (count s - i₀) s i₀ end₀
+  pub beyond : maxEnd < end → passed (checkedFrom (count s - i₀) s i₀ end₀) ≡ false
+  pub small : end ≤ maxEnd + i * 4294967296
+
+pub summed-begun : (s : List ℕ) (end : ℕ) → end ≤ maxEnd → Summed s end 0 end 0
+summed-begun s end h = record { within = λ l. refl; beyond = λ l. absurd (omega (arith, h, l)); small = omega (arith, h) }
+
+module _ {s : List ℕ} {end₀ i₀ end i : ℕ} (x : Summed s end₀ i₀ end i) where
+  -- what is false of the check from here, if the end is within the limit, is false of it from the start
+  still-false : (t : Bool) → ltb maxEnd end ≡ t → passed (checkedFrom (count s - i) s i end) ≡ false → passed (checkedFrom (count s - i₀) s i₀ end₀) ≡ false
+  still-false true q z = x .beyond (ltb-true _ _ q)
+  still-false false q z = ap passed (sym (x .within (ltb-false _ _ q))) ∙ z
+
+  module _ (r : ℕ) (h : i < count s) (e : r ≡ recordRefusal (kindNumberAt s i) (lengthAt s i) 0) where
+    pub summed-on : r ≡ 0 → lengthAt s i < 4294967296 → Summed s end₀ i₀ (end + lengthAt s i) (i + 1)
+    summed-on z b =
+        record {
+          within = λ l. sym (on-within s i end r h e z l) ∙ x .within (omega (arith, l));
+          beyond = λ l. still-false (ltb maxEnd end) refl (on-beyond s i end r h e l);
+          small = omega (arith, x .small, b);
+        }
+
+    pub summed-refused : (r ≡ 0 → ⊥) → passed (checkedFrom (count s - i₀) s i₀ end₀) ≡ false
+    summed-refused z = still-false (ltb maxEnd end) refl (on-refused s i end r h e z)
+
+  pub summed-end : count s ≤ i → (t : Bool) → leb end maxEnd ≡ t → t ≡ passed (checkedFrom (count s - i₀) s i₀ end₀)
+  summed-end h true q = sym (ap passed (sym (x .within (leb-true _ _ q)) ∙ from-end s i end h))
+  summed-end h false q = sym (x .beyond (leb-false _ _ q))
+
+pub from-start : (s : List ℕ) (p : ℕ) → checkedFrom (count s - 0) s 0 p ≡ checkedFrom (count s) s 0 p
+from-start s p = let z : count s - 0 ≡ count s = omega arith in rw z
+
+pub passed-is : (x : Checked) → passed x ≡ true → x ≡ Checked.Passed
+passed-is Checked.Passed e = refl
+passed-is (Checked.Refused r i) e = absurd (false≢true e)
+
+-- the widths of the kinds, by their numbers
+pub width-by : (k : ℕ) → 0 < k → widthOf (kindOf k) ≡ cond (ltb k 8) Width.One (cond (ltb k 16) Width.Some Width.Zero)
+unfolding kindOf
+width-by zero h = absurd (omega (arith, h))
+width-by (suc zero) h = refl
+width-by (suc (suc zero)) h = refl
+width-by (suc (suc (suc zero))) h = refl
+width-by (suc (suc (suc (suc zero)))) h = refl
+width-by (suc (suc (suc (suc (suc zero))))) h = refl
+width-by (suc (suc (suc (suc (suc (suc zero)))))) h = refl
+width-by (suc (suc (suc (suc (suc (suc (suc zero))))))) h = refl
+width-by (suc (suc (suc (suc (suc (suc (suc (suc zero)))))))) h = refl
+width-by (suc (suc (suc (suc (suc (suc (suc (suc (suc zero))))))))) h = refl
+width-by (suc (suc (suc (suc (suc (suc (suc (suc (suc (suc zero)))))))))) h = refl
+width-by (suc (suc (suc (suc (suc (suc (suc (suc (suc (suc (suc zero))))))))))) h = refl
+width-by (suc (suc (suc (suc (suc (suc (suc (suc (suc (suc (suc (suc zero)))))))))))) h = refl
+width-by (suc (suc (suc (suc (suc (suc (suc (suc (suc (suc (suc (suc (suc zero))))))))))))) h = refl
+width-by (suc (suc (suc (suc (suc (suc (suc (suc (suc (suc (suc (suc (suc (suc zero)))))))))))))) h = refl
+width-by (suc (suc (suc (suc (suc (suc (suc (suc (suc (suc (suc (suc (suc (suc (suc zero))))))))))))))) h = refl
+width-by (suc (suc (suc (suc (suc (suc (suc (suc (suc (suc (suc (suc (suc (suc (suc (suc n)))))))))))))))) h =
+    let low : 8 ≤ (suc (suc (suc (suc (suc (suc (suc (suc (suc (suc (suc (suc (suc (suc (suc (suc n)))))))))))))))) = omega arith in
+    let high : 16 ≤ (suc (suc (suc (suc (suc (suc (suc (suc (suc (suc (suc (suc (suc (suc (suc (suc n)))))))))))))))) = omega arith in
+    sym (simp (le-ltb _ _ low, le-ltb _ _ high))
+
+-- a record of a kind's number is refused, its end aside, exactly for its length
+fits-bool : (b : Bool) → eqb (cond b (cond (ltb maxEnd 0) 5 0) 4) 0 ≡ b
+fits-bool true = refl
+fits-bool false = refl
+
+pub fits-by : (k n : ℕ) → 1 ≤ k → k ≤ 16 → eqb (recordRefusal k n 0) 0 ≡ widthFits (widthOf (kindOf k)) n
+fits-by k n h l = simp (le-ltb _ _ h, le-ltb _ _ l) (fits-bool (widthFits (widthOf (kindOf k)) n))
+
 -- what passes: whole records, not too many, a base within the limit, and then every record
 pub record Passes (s : List ℕ) (base : ℕ) : Type 0 where
   pub whole : length s % 6 ≡ 0
@@ -139,12 +237,11 @@ passed-good s base c p a =
     }
 
 -- where 1, 2 and the base do not refuse, the records decide
-pub checked-records : (s : List ℕ) (base p : ℕ) → length s % 6 ≡ 0 → count s ≤ maxRecords → p ≤ maxEnd → p ≡ base → checkedFrom (count s - 0) s 0 p ≡ checked s base
+pub checked-records : (s : List ℕ) (base p : ℕ) → length s % 6 ≡ 0 → count s ≤ maxRecords → p ≤ maxEnd → p ≡ base → checkedFrom (count s) s 0 p ≡ checked s base
 unfolding checked
 checked-records s base p h k l e =
-    let z : count s - 0 ≡ count s = omega arith in
     let l' : base ≤ maxEnd = omega (arith, l, e) in
-    sym (simp (eq-eqb _ _ h, le-ltb _ _ k, le-ltb _ _ l') (rw (z, e)))
+    sym (simp (eq-eqb _ _ h, le-ltb _ _ k, le-ltb _ _ l') (rw e))
 
 -- a refusal has a number other than 0
 abbrev Numbered : Checked → Type 0

@@ -18,11 +18,11 @@ pub struct Token {
     pub end: u32,
 }
 
-// Where the text starts, the index of the next record, and where that record's text starts.
+// The index of the next record, where that record's text starts, and where the whole text starts.
 pub struct Cursor {
-    pub base: u32,
     pub at: usize,
     pub place: u32,
+    pub base: u32,
 }
 
 // A token and the cursor past it, or the end of the list.
@@ -76,9 +76,9 @@ impl Cursor {
         ensures { λ r. ⌜ At r base 0 base ⌝ }
     {
         Cursor {
-            base,
             at: 0,
             place: base,
+            base,
         }
     }
 
@@ -97,9 +97,9 @@ impl Cursor {
                     end,
                 },
                 Cursor {
-                    base: self.base,
                     at: at + 1,
                     place: end,
+                    base: self.base,
                 },
             )
         } else {
@@ -144,9 +144,9 @@ impl Cursor {
     {
         let at = self.at - 1;
         Cursor {
-            base: self.base,
             at,
             place: self.place - length_at(s, at),
+            base: self.base,
         }
     }
 

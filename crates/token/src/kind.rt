@@ -84,29 +84,6 @@ pub fn number_of(kind: Kind) -> usize
     }
 }
 
-pub fn width_of(kind: Kind) -> Width
-    ensures { λ r. ⌜ r ≡ widthOf kind ⌝ }
-{
-    match kind {
-        Kind::Dot => Width::One,
-        Kind::Equals => Width::One,
-        Kind::Comma => Width::One,
-        Kind::LeftSquareBracket => Width::One,
-        Kind::RightSquareBracket => Width::One,
-        Kind::LeftCurlyBracket => Width::One,
-        Kind::RightCurlyBracket => Width::One,
-        Kind::Whitespace => Width::Some,
-        Kind::Comment => Width::Some,
-        Kind::Newline => Width::Some,
-        Kind::LiteralString => Width::Some,
-        Kind::BasicString => Width::Some,
-        Kind::MlLiteralString => Width::Some,
-        Kind::MlBasicString => Width::Some,
-        Kind::Atom => Width::Some,
-        Kind::Eof => Width::Zero,
-    }
-}
-
 pub fn in_search(kind: Kind) -> InSearch
     ensures { λ r. ⌜ r ≡ inSearch kind ⌝ }
 {

@@ -8,8 +8,8 @@ use Rattle.token.specs.Records.{count}
 use Rattle.token.specs.Tokens.{tokensAt}
 use Rattle.rules.specs.Turns.{turns, looping}
 use Rattle.rules.specs.Document.{documentTurn}
-use Rattle.lines.specs.Pour.{bufs}
-use Rattle.lines.specs.TurnLaws.{Turns, turns-begun}
+use Rattle.output.specs.Pour.{bufs}
+use Rattle.output.specs.TurnLaws.{Turns, turns-begun}
 use Rattle.grammar.proofs.DocumentLaws.{step-over, step-stop, step-again}
 use Rattle.grammar.proofs.document.document.Statement.{statement}
 use Rattle.grammar.proofs.document.document.Tie as tie

@@ -9,7 +9,7 @@ use Rattle.rules.specs.Skipping.{eof}
 use Rattle.rules.specs.Messages as message
 use Rattle.rules.specs.Keys.{simpleKey}
 use Rattle.nest.specs.NestedLaws.{nested-goes}
-use Rattle.lines.specs.AnswerLaws.{outcome-unread}
+use Rattle.grammar.proofs.AnswerLaws.{outcome-unread}
 use Rattle.grammar.proofs.EntryLaws.{start-good, start-rule, entry-answers}
 use borrow.Author.Needs.{needs}
 use Rattle.grammar.proofs.entries.parse_simple_key.Statement.{statement}

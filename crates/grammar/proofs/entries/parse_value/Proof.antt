@@ -8,7 +8,7 @@ use Rattle.rules.specs.Answer.{Outcome}
 use Rattle.rules.specs.Skipping.{eof}
 use Rattle.rules.specs.Limits.{maxDepth}
 use Rattle.rules.specs.Value.{value}
-use Rattle.lines.specs.AnswerLaws.{outcome-unread}
+use Rattle.grammar.proofs.AnswerLaws.{outcome-unread}
 use Rattle.grammar.proofs.EntryLaws.{start-good, start-rule, entry-answers}
 use borrow.Author.Needs.{needs}
 use Rattle.grammar.proofs.entries.parse_value.Statement.{statement}

@@ -7,12 +7,12 @@ use Prim.Native.Nat.{_-_, _≤_}
 use lib.ListN.{length}
 use Rattle.token.specs.Records.{count}
 use Rattle.token.specs.Tokens.{tokensAt}
-use Rattle.lines.specs.Pour.{bufs}
-use Rattle.lines.specs.WalkLaws.{first-item, run-done, told, told-done, at-end}
+use Rattle.output.specs.Pour.{bufs}
+use Rattle.output.specs.WalkLaws.{first-item, run-done, told, told-done, at-end}
 use Rattle.rules.specs.Out.{done}
 use Rattle.rules.specs.Turns.{turns, looping}
 use Rattle.rules.specs.Skipping.{opened, valueCloseTurn}
-use Rattle.lines.specs.TurnLaws.{Turns, turns-begun, turn-again, turn-finish}
+use Rattle.output.specs.TurnLaws.{Turns, turns-begun, turn-again, turn-finish}
 use Rattle.lines.proofs.SkippingLaws.{value-at, comment-on, open-square, open-curly, square-close, square-skip, square-down, curly-close, curly-skip, curly-down}
 use borrow.Author.Needs.{needs}
 use Rattle.lines.proofs.skipping.ignore_to_value_close.Statement.{statement}

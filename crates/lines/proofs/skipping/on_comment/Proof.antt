@@ -1,6 +1,6 @@
 -- The comment, then the end of its line.
 -- Made by ./proofs from Proof.tmpl: change that.
-use Rattle.lines.specs.WalkLaws.{after-item}
+use Rattle.output.specs.WalkLaws.{after-item}
 use borrow.Author.Needs.{needs}
 use Rattle.lines.proofs.skipping.on_comment.Statement.{statement}
 use Rattle.lines.proofs.skipping.on_comment.Tie as tie

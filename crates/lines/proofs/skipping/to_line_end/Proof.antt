@@ -7,11 +7,11 @@ use Prim.Native.Nat.{_-_}
 use lib.ListN.{length}
 use Rattle.token.specs.Records.{count}
 use Rattle.token.specs.Tokens.{tokensAt}
-use Rattle.lines.specs.Pour.{bufs}
-use Rattle.lines.specs.WalkLaws.{Looped, begun, again, finish, first-item, run-done, told, told-done}
+use Rattle.output.specs.Pour.{bufs}
+use Rattle.output.specs.WalkLaws.{Looped, begun, again, finish, first-item, first-items, run-done, told, told-done}
 use Rattle.rules.specs.Out.{done}
-use Rattle.lines.specs.LineEnd.{lineEnd}
-use Rattle.lines.specs.WalkLaws.{by-rule, rule-end}
+use Rattle.lines.specs.LineEnd.{lineEnd, contentAfterComment}
+use Rattle.output.specs.WalkLaws.{by-rule, rule-end}
 use Rattle.lines.proofs.SkippingLaws.{line-at, line-none}
 use borrow.Author.Needs.{needs}
 use Rattle.lines.proofs.skipping.to_line_end.Statement.{statement}
@@ -79,21 +79,18 @@ returns-3 c = finish ((c .before .before .before .before .before .before .before
 enum-told-4 : tie.Need-enum-told-4 Inv-loop μ-loop
 enum-told-4 c = search needs
 
-report-requires : tie.Need-report-requires Inv-loop μ-loop
-report-requires c κs = search needs
-
-emit-requires-2 : tie.Need-emit-requires-2 Inv-loop μ-loop
-emit-requires-2 c κs = search needs
+content-after-comment-requires : tie.Need-content-after-comment-requires Inv-loop μ-loop
+content-after-comment-requires c κs = search needs
 
 loop-less : tie.Need-loop-less Inv-loop μ-loop
-loop-less c = omega (arith, (told _ _ _ _ _ ((c .before .before .before .before .before .before .before .before .before .before .before .before .before .before .before .next) .ensures) ((c .before .before .before .before .before .before .before .before .before .before .before .before .before .step) .given .1)) .left, (told _ _ _ _ _ ((c .before .before .before .before .before .before .before .before .before .before .before .before .before .before .before .next) .ensures) ((c .before .before .before .before .before .before .before .before .before .before .before .before .before .step) .given .1)) .on)
+loop-less c = omega (arith, (told _ _ _ _ _ ((c .before .before .before .before .before .before .before .before .before .before .before .before .before .before .next) .ensures) ((c .before .before .before .before .before .before .before .before .before .before .before .before .step) .given .1)) .left, (told _ _ _ _ _ ((c .before .before .before .before .before .before .before .before .before .before .before .before .before .before .next) .ensures) ((c .before .before .before .before .before .before .before .before .before .before .before .before .step) .given .1)) .on)
 
 loop-again : tie.Need-loop-again Inv-loop μ-loop
 loop-again c =
-    (again ((c .before .before .before .before .before .before .before .before .before .before .before .before .before .before .before .before .loop) .inv .0) _ _ _ ((line-at _ _ _ _ (told _ _ _ _ _ ((c .before .before .before .before .before .before .before .before .before .before .before .before .before .before .before .next) .ensures) ((c .before .before .before .before .before .before .before .before .before .before .before .before .before .step) .given .1)) _ _ ((c .before .before .before .before .before .before .before .before .before .before .before .in-line) .ensures) ((c .before .before .before .before .before .before .before .before .before .enum-told4) .given .1) _ _ ((c .before .before .before .before .before .before .before .before .before .before .before .before .before .before .before .before .loop) .after) _ ((c .before .before .before .before .before .before .before .before .before .before .before .before .before .before .before .before .loop) .start)) ((c .before .before .before .before .before .before .before .before .if1) .taken) ∙ ((first-item _ _ _ _ _ (c .before .before .before .before .before .before .report .ensures _ _)) ∙ (first-item _ _ _ _ _ (c .before .before .emit2 .ensures _ _)))) (omega (arith, (told _ _ _ _ _ ((c .before .before .before .before .before .before .before .before .before .before .before .before .before .before .before .next) .ensures) ((c .before .before .before .before .before .before .before .before .before .before .before .before .before .step) .given .1)) .on)) ((told _ _ _ _ _ ((c .before .before .before .before .before .before .before .before .before .before .before .before .before .before .before .next) .ensures) ((c .before .before .before .before .before .before .before .before .before .before .before .before .before .step) .given .1)) .base) ((told _ _ _ _ _ ((c .before .before .before .before .before .before .before .before .before .before .before .before .before .before .before .next) .ensures) ((c .before .before .before .before .before .before .before .before .before .before .before .before .before .step) .given .1)) .good), ((c .before .before .emit2 .kept .0)) ∙ (c .before .before .before .before .before .before .before .before .before .before .before .before .before .before .before .before .loop) .inv .1, ((c .before .before .before .before .before .before .report .kept .0)) ∙ (c .before .before .before .before .before .before .before .before .before .before .before .before .before .before .before .before .loop) .inv .2)
+    (again ((c .before .before .before .before .before .before .before .before .before .before .before .before .before .before .before .loop) .inv .0) _ _ _ ((line-at _ _ _ _ (told _ _ _ _ _ ((c .before .before .before .before .before .before .before .before .before .before .before .before .before .before .next) .ensures) ((c .before .before .before .before .before .before .before .before .before .before .before .before .step) .given .1)) _ _ ((c .before .before .before .before .before .before .before .before .before .before .in-line) .ensures) ((c .before .before .before .before .before .before .before .before .enum-told4) .given .1) _ _ ((c .before .before .before .before .before .before .before .before .before .before .before .before .before .before .before .loop) .after) _ ((c .before .before .before .before .before .before .before .before .before .before .before .before .before .before .before .loop) .start)) ((c .before .before .before .before .before .before .before .if1) .taken) ∙ first-items _ (contentAfterComment ((c .before .before .before .before .before .before .before .before .before .before .before .before .before .before .before .loop) .start) ((c .before .before .before .before .before .before .before .before .before .before .before .before .step) .given .0 .0 .start) ((c .before .before .before .before .before .before .before .before .before .before .before .before .step) .given .0 .0 .end)) _ _ _ ((c .before .before .before .before .content-after-comment) .ensures _)) (omega (arith, (told _ _ _ _ _ ((c .before .before .before .before .before .before .before .before .before .before .before .before .before .before .next) .ensures) ((c .before .before .before .before .before .before .before .before .before .before .before .before .step) .given .1)) .on)) ((told _ _ _ _ _ ((c .before .before .before .before .before .before .before .before .before .before .before .before .before .before .next) .ensures) ((c .before .before .before .before .before .before .before .before .before .before .before .before .step) .given .1)) .base) ((told _ _ _ _ _ ((c .before .before .before .before .before .before .before .before .before .before .before .before .before .before .next) .ensures) ((c .before .before .before .before .before .before .before .before .before .before .before .before .step) .given .1)) .good), ((c .before .before .before .before .content-after-comment .kept .1 .1 .1 .0)) ∙ (c .before .before .before .before .before .before .before .before .before .before .before .before .before .before .before .loop) .inv .1, ((c .before .before .before .before .content-after-comment .kept .1 .1 .1 .1 .0)) ∙ (c .before .before .before .before .before .before .before .before .before .before .before .before .before .before .before .loop) .inv .2)
 
-emit-requires-3 : tie.Need-emit-requires-3 Inv-loop μ-loop
-emit-requires-3 c κs = search needs
+emit-requires-2 : tie.Need-emit-requires-2 Inv-loop μ-loop
+emit-requires-2 c κs = search needs
 
 loop-less-2 : tie.Need-loop-less-2 Inv-loop μ-loop
 loop-less-2 c = omega (arith, (told _ _ _ _ _ ((c .before .before .before .before .before .before .before .before .before .before .before .next) .ensures) ((c .before .before .before .before .before .before .before .before .before .step) .given .1)) .left, (told _ _ _ _ _ ((c .before .before .before .before .before .before .before .before .before .before .before .next) .ensures) ((c .before .before .before .before .before .before .before .before .before .step) .given .1)) .on)
@@ -101,52 +98,46 @@ loop-less-2 c = omega (arith, (told _ _ _ _ _ ((c .before .before .before .befor
 loop-again-2 : tie.Need-loop-again-2 Inv-loop μ-loop
 loop-again-2 c =
     rw ((c .before .before .before .before .if1) .left)
-    (again ((c .before .before .before .before .before .before .before .before .before .before .before .before .loop) .inv .0) _ _ _ ((line-at _ _ _ _ (told _ _ _ _ _ ((c .before .before .before .before .before .before .before .before .before .before .before .next) .ensures) ((c .before .before .before .before .before .before .before .before .before .step) .given .1)) _ _ ((c .before .before .before .before .before .before .before .in-line) .ensures) ((c .before .before .before .before .before .enum-told4) .given .1) _ _ ((c .before .before .before .before .before .before .before .before .before .before .before .before .loop) .after) _ ((c .before .before .before .before .before .before .before .before .before .before .before .before .loop) .start)) ((c .before .before .before .before .if1) .left) ∙ ((first-item _ _ _ _ _ (c .before .before .emit3 .ensures _ _)))) (omega (arith, (told _ _ _ _ _ ((c .before .before .before .before .before .before .before .before .before .before .before .next) .ensures) ((c .before .before .before .before .before .before .before .before .before .step) .given .1)) .on)) ((told _ _ _ _ _ ((c .before .before .before .before .before .before .before .before .before .before .before .next) .ensures) ((c .before .before .before .before .before .before .before .before .before .step) .given .1)) .base) ((told _ _ _ _ _ ((c .before .before .before .before .before .before .before .before .before .before .before .next) .ensures) ((c .before .before .before .before .before .before .before .before .before .step) .given .1)) .good), ((c .before .before .emit3 .kept .0)) ∙ (c .before .before .before .before .before .before .before .before .before .before .before .before .loop) .inv .1, (refl) ∙ (c .before .before .before .before .before .before .before .before .before .before .before .before .loop) .inv .2)
+    (again ((c .before .before .before .before .before .before .before .before .before .before .before .before .loop) .inv .0) _ _ _ ((line-at _ _ _ _ (told _ _ _ _ _ ((c .before .before .before .before .before .before .before .before .before .before .before .next) .ensures) ((c .before .before .before .before .before .before .before .before .before .step) .given .1)) _ _ ((c .before .before .before .before .before .before .before .in-line) .ensures) ((c .before .before .before .before .before .enum-told4) .given .1) _ _ ((c .before .before .before .before .before .before .before .before .before .before .before .before .loop) .after) _ ((c .before .before .before .before .before .before .before .before .before .before .before .before .loop) .start)) ((c .before .before .before .before .if1) .left) ∙ ((first-item _ _ _ _ _ (c .before .before .emit2 .ensures _ _)))) (omega (arith, (told _ _ _ _ _ ((c .before .before .before .before .before .before .before .before .before .before .before .next) .ensures) ((c .before .before .before .before .before .before .before .before .before .step) .given .1)) .on)) ((told _ _ _ _ _ ((c .before .before .before .before .before .before .before .before .before .before .before .next) .ensures) ((c .before .before .before .before .before .before .before .before .before .step) .given .1)) .base) ((told _ _ _ _ _ ((c .before .before .before .before .before .before .before .before .before .before .before .next) .ensures) ((c .before .before .before .before .before .before .before .before .before .step) .given .1)) .good), ((c .before .before .emit2 .kept .0)) ∙ (c .before .before .before .before .before .before .before .before .before .before .before .before .loop) .inv .1, (refl) ∙ (c .before .before .before .before .before .before .before .before .before .before .before .before .loop) .inv .2)
 
 enum-told-5 : tie.Need-enum-told-5 Inv-loop μ-loop
 enum-told-5 c = search needs
 
-report-requires-2 : tie.Need-report-requires-2 Inv-loop μ-loop
-report-requires-2 c κs = search needs
-
-emit-requires-4 : tie.Need-emit-requires-4 Inv-loop μ-loop
-emit-requires-4 c κs = search needs
+content-after-comment-requires-2 : tie.Need-content-after-comment-requires-2 Inv-loop μ-loop
+content-after-comment-requires-2 c κs = search needs
 
 loop-less-3 : tie.Need-loop-less-3 Inv-loop μ-loop
-loop-less-3 c = omega (arith, (told _ _ _ _ _ ((c .before .before .before .before .before .before .before .before .before .before .before .before .before .before .before .next) .ensures) ((c .before .before .before .before .before .before .before .before .before .before .before .before .before .step) .given .1)) .left, (told _ _ _ _ _ ((c .before .before .before .before .before .before .before .before .before .before .before .before .before .before .before .next) .ensures) ((c .before .before .before .before .before .before .before .before .before .before .before .before .before .step) .given .1)) .on)
+loop-less-3 c = omega (arith, (told _ _ _ _ _ ((c .before .before .before .before .before .before .before .before .before .before .before .before .before .before .next) .ensures) ((c .before .before .before .before .before .before .before .before .before .before .before .before .step) .given .1)) .left, (told _ _ _ _ _ ((c .before .before .before .before .before .before .before .before .before .before .before .before .before .before .next) .ensures) ((c .before .before .before .before .before .before .before .before .before .before .before .before .step) .given .1)) .on)
 
 loop-again-3 : tie.Need-loop-again-3 Inv-loop μ-loop
 loop-again-3 c =
-    (again ((c .before .before .before .before .before .before .before .before .before .before .before .before .before .before .before .before .loop) .inv .0) _ _ _ ((line-at _ _ _ _ (told _ _ _ _ _ ((c .before .before .before .before .before .before .before .before .before .before .before .before .before .before .before .next) .ensures) ((c .before .before .before .before .before .before .before .before .before .before .before .before .before .step) .given .1)) _ _ ((c .before .before .before .before .before .before .before .before .before .before .before .in-line) .ensures) ((c .before .before .before .before .before .before .before .before .before .enum-told5) .given .1) _ _ ((c .before .before .before .before .before .before .before .before .before .before .before .before .before .before .before .before .loop) .after) _ ((c .before .before .before .before .before .before .before .before .before .before .before .before .before .before .before .before .loop) .start)) ((c .before .before .before .before .before .before .before .before .if2) .taken) ∙ ((first-item _ _ _ _ _ (c .before .before .before .before .before .before .report2 .ensures _ _)) ∙ (first-item _ _ _ _ _ (c .before .before .emit4 .ensures _ _)))) (omega (arith, (told _ _ _ _ _ ((c .before .before .before .before .before .before .before .before .before .before .before .before .before .before .before .next) .ensures) ((c .before .before .before .before .before .before .before .before .before .before .before .before .before .step) .given .1)) .on)) ((told _ _ _ _ _ ((c .before .before .before .before .before .before .before .before .before .before .before .before .before .before .before .next) .ensures) ((c .before .before .before .before .before .before .before .before .before .before .before .before .before .step) .given .1)) .base) ((told _ _ _ _ _ ((c .before .before .before .before .before .before .before .before .before .before .before .before .before .before .before .next) .ensures) ((c .before .before .before .before .before .before .before .before .before .before .before .before .before .step) .given .1)) .good), ((c .before .before .emit4 .kept .0)) ∙ (c .before .before .before .before .before .before .before .before .before .before .before .before .before .before .before .before .loop) .inv .1, ((c .before .before .before .before .before .before .report2 .kept .0)) ∙ (c .before .before .before .before .before .before .before .before .before .before .before .before .before .before .before .before .loop) .inv .2)
+    (again ((c .before .before .before .before .before .before .before .before .before .before .before .before .before .before .before .loop) .inv .0) _ _ _ ((line-at _ _ _ _ (told _ _ _ _ _ ((c .before .before .before .before .before .before .before .before .before .before .before .before .before .before .next) .ensures) ((c .before .before .before .before .before .before .before .before .before .before .before .before .step) .given .1)) _ _ ((c .before .before .before .before .before .before .before .before .before .before .in-line) .ensures) ((c .before .before .before .before .before .before .before .before .enum-told5) .given .1) _ _ ((c .before .before .before .before .before .before .before .before .before .before .before .before .before .before .before .loop) .after) _ ((c .before .before .before .before .before .before .before .before .before .before .before .before .before .before .before .loop) .start)) ((c .before .before .before .before .before .before .before .if2) .taken) ∙ first-items _ (contentAfterComment ((c .before .before .before .before .before .before .before .before .before .before .before .before .before .before .before .loop) .start) ((c .before .before .before .before .before .before .before .before .before .before .before .before .step) .given .0 .0 .start) ((c .before .before .before .before .before .before .before .before .before .before .before .before .step) .given .0 .0 .end)) _ _ _ ((c .before .before .before .before .content-after-comment2) .ensures _)) (omega (arith, (told _ _ _ _ _ ((c .before .before .before .before .before .before .before .before .before .before .before .before .before .before .next) .ensures) ((c .before .before .before .before .before .before .before .before .before .before .before .before .step) .given .1)) .on)) ((told _ _ _ _ _ ((c .before .before .before .before .before .before .before .before .before .before .before .before .before .before .next) .ensures) ((c .before .before .before .before .before .before .before .before .before .before .before .before .step) .given .1)) .base) ((told _ _ _ _ _ ((c .before .before .before .before .before .before .before .before .before .before .before .before .before .before .next) .ensures) ((c .before .before .before .before .before .before .before .before .before .before .before .before .step) .given .1)) .good), ((c .before .before .before .before .content-after-comment2 .kept .1 .1 .1 .0)) ∙ (c .before .before .before .before .before .before .before .before .before .before .before .before .before .before .before .loop) .inv .1, ((c .before .before .before .before .content-after-comment2 .kept .1 .1 .1 .1 .0)) ∙ (c .before .before .before .before .before .before .before .before .before .before .before .before .before .before .before .loop) .inv .2)
 
-emit-requires-5 : tie.Need-emit-requires-5 Inv-loop μ-loop
-emit-requires-5 c κs = search needs
+emit-requires-3 : tie.Need-emit-requires-3 Inv-loop μ-loop
+emit-requires-3 c κs = search needs
 
 loop-less-4 : tie.Need-loop-less-4 Inv-loop μ-loop
 loop-less-4 c = omega (arith, (told _ _ _ _ _ ((c .before .before .before .before .before .before .before .before .before .before .before .next) .ensures) ((c .before .before .before .before .before .before .before .before .before .step) .given .1)) .left, (told _ _ _ _ _ ((c .before .before .before .before .before .before .before .before .before .before .before .next) .ensures) ((c .before .before .before .before .before .before .before .before .before .step) .given .1)) .on)
 
 loop-again-4 : tie.Need-loop-again-4 Inv-loop μ-loop
 loop-again-4 c =
-    (again ((c .before .before .before .before .before .before .before .before .before .before .before .before .loop) .inv .0) _ _ _ ((line-at _ _ _ _ (told _ _ _ _ _ ((c .before .before .before .before .before .before .before .before .before .before .before .next) .ensures) ((c .before .before .before .before .before .before .before .before .before .step) .given .1)) _ _ ((c .before .before .before .before .before .before .before .in-line) .ensures) ((c .before .before .before .before .before .enum-told5) .given .1) _ _ ((c .before .before .before .before .before .before .before .before .before .before .before .before .loop) .after) _ ((c .before .before .before .before .before .before .before .before .before .before .before .before .loop) .start)) ((c .before .before .before .before .if2) .left) ∙ ((first-item _ _ _ _ _ (c .before .before .emit5 .ensures _ _)))) (omega (arith, (told _ _ _ _ _ ((c .before .before .before .before .before .before .before .before .before .before .before .next) .ensures) ((c .before .before .before .before .before .before .before .before .before .step) .given .1)) .on)) ((told _ _ _ _ _ ((c .before .before .before .before .before .before .before .before .before .before .before .next) .ensures) ((c .before .before .before .before .before .before .before .before .before .step) .given .1)) .base) ((told _ _ _ _ _ ((c .before .before .before .before .before .before .before .before .before .before .before .next) .ensures) ((c .before .before .before .before .before .before .before .before .before .step) .given .1)) .good), ((c .before .before .emit5 .kept .0)) ∙ (c .before .before .before .before .before .before .before .before .before .before .before .before .loop) .inv .1, (refl) ∙ (c .before .before .before .before .before .before .before .before .before .before .before .before .loop) .inv .2)
+    (again ((c .before .before .before .before .before .before .before .before .before .before .before .before .loop) .inv .0) _ _ _ ((line-at _ _ _ _ (told _ _ _ _ _ ((c .before .before .before .before .before .before .before .before .before .before .before .next) .ensures) ((c .before .before .before .before .before .before .before .before .before .step) .given .1)) _ _ ((c .before .before .before .before .before .before .before .in-line) .ensures) ((c .before .before .before .before .before .enum-told5) .given .1) _ _ ((c .before .before .before .before .before .before .before .before .before .before .before .before .loop) .after) _ ((c .before .before .before .before .before .before .before .before .before .before .before .before .loop) .start)) ((c .before .before .before .before .if2) .left) ∙ ((first-item _ _ _ _ _ (c .before .before .emit3 .ensures _ _)))) (omega (arith, (told _ _ _ _ _ ((c .before .before .before .before .before .before .before .before .before .before .before .next) .ensures) ((c .before .before .before .before .before .before .before .before .before .step) .given .1)) .on)) ((told _ _ _ _ _ ((c .before .before .before .before .before .before .before .before .before .before .before .next) .ensures) ((c .before .before .before .before .before .before .before .before .before .step) .given .1)) .base) ((told _ _ _ _ _ ((c .before .before .before .before .before .before .before .before .before .before .before .next) .ensures) ((c .before .before .before .before .before .before .before .before .before .step) .given .1)) .good), ((c .before .before .emit3 .kept .0)) ∙ (c .before .before .before .before .before .before .before .before .before .before .before .before .loop) .inv .1, (refl) ∙ (c .before .before .before .before .before .before .before .before .before .before .before .before .loop) .inv .2)
 
 enum-told-6 : tie.Need-enum-told-6 Inv-loop μ-loop
 enum-told-6 c = search needs
 
-report-requires-3 : tie.Need-report-requires-3 Inv-loop μ-loop
-report-requires-3 c κs = search needs
-
-emit-requires-6 : tie.Need-emit-requires-6 Inv-loop μ-loop
-emit-requires-6 c κs = search needs
+content-after-comment-requires-3 : tie.Need-content-after-comment-requires-3 Inv-loop μ-loop
+content-after-comment-requires-3 c κs = search needs
 
 loop-less-5 : tie.Need-loop-less-5 Inv-loop μ-loop
-loop-less-5 c = omega (arith, (told _ _ _ _ _ ((c .before .before .before .before .before .before .before .before .before .before .before .before .before .before .before .next) .ensures) ((c .before .before .before .before .before .before .before .before .before .before .before .before .before .step) .given .1)) .left, (told _ _ _ _ _ ((c .before .before .before .before .before .before .before .before .before .before .before .before .before .before .before .next) .ensures) ((c .before .before .before .before .before .before .before .before .before .before .before .before .before .step) .given .1)) .on)
+loop-less-5 c = omega (arith, (told _ _ _ _ _ ((c .before .before .before .before .before .before .before .before .before .before .before .before .before .before .next) .ensures) ((c .before .before .before .before .before .before .before .before .before .before .before .before .step) .given .1)) .left, (told _ _ _ _ _ ((c .before .before .before .before .before .before .before .before .before .before .before .before .before .before .next) .ensures) ((c .before .before .before .before .before .before .before .before .before .before .before .before .step) .given .1)) .on)
 
 loop-again-5 : tie.Need-loop-again-5 Inv-loop μ-loop
 loop-again-5 c =
-    (again ((c .before .before .before .before .before .before .before .before .before .before .before .before .before .before .before .before .loop) .inv .0) _ _ _ ((line-at _ _ _ _ (told _ _ _ _ _ ((c .before .before .before .before .before .before .before .before .before .before .before .before .before .before .before .next) .ensures) ((c .before .before .before .before .before .before .before .before .before .before .before .before .before .step) .given .1)) _ _ ((c .before .before .before .before .before .before .before .before .before .before .before .in-line) .ensures) ((c .before .before .before .before .before .before .before .before .before .enum-told6) .given .1) _ _ ((c .before .before .before .before .before .before .before .before .before .before .before .before .before .before .before .before .loop) .after) _ ((c .before .before .before .before .before .before .before .before .before .before .before .before .before .before .before .before .loop) .start)) ((c .before .before .before .before .before .before .before .before .if3) .taken) ∙ ((first-item _ _ _ _ _ (c .before .before .before .before .before .before .report3 .ensures _ _)) ∙ (first-item _ _ _ _ _ (c .before .before .emit6 .ensures _ _)))) (omega (arith, (told _ _ _ _ _ ((c .before .before .before .before .before .before .before .before .before .before .before .before .before .before .before .next) .ensures) ((c .before .before .before .before .before .before .before .before .before .before .before .before .before .step) .given .1)) .on)) ((told _ _ _ _ _ ((c .before .before .before .before .before .before .before .before .before .before .before .before .before .before .before .next) .ensures) ((c .before .before .before .before .before .before .before .before .before .before .before .before .before .step) .given .1)) .base) ((told _ _ _ _ _ ((c .before .before .before .before .before .before .before .before .before .before .before .before .before .before .before .next) .ensures) ((c .before .before .before .before .before .before .before .before .before .before .before .before .before .step) .given .1)) .good), ((c .before .before .emit6 .kept .0)) ∙ (c .before .before .before .before .before .before .before .before .before .before .before .before .before .before .before .before .loop) .inv .1, ((c .before .before .before .before .before .before .report3 .kept .0)) ∙ (c .before .before .before .before .before .before .before .before .before .before .before .before .before .before .before .before .loop) .inv .2)
+    (again ((c .before .before .before .before .before .before .before .before .before .before .before .before .before .before .before .loop) .inv .0) _ _ _ ((line-at _ _ _ _ (told _ _ _ _ _ ((c .before .before .before .before .before .before .before .before .before .before .before .before .before .before .next) .ensures) ((c .before .before .before .before .before .before .before .before .before .before .before .before .step) .given .1)) _ _ ((c .before .before .before .before .before .before .before .before .before .before .in-line) .ensures) ((c .before .before .before .before .before .before .before .before .enum-told6) .given .1) _ _ ((c .before .before .before .before .before .before .before .before .before .before .before .before .before .before .before .loop) .after) _ ((c .before .before .before .before .before .before .before .before .before .before .before .before .before .before .before .loop) .start)) ((c .before .before .before .before .before .before .before .if3) .taken) ∙ first-items _ (contentAfterComment ((c .before .before .before .before .before .before .before .before .before .before .before .before .before .before .before .loop) .start) ((c .before .before .before .before .before .before .before .before .before .before .before .before .step) .given .0 .0 .start) ((c .before .before .before .before .before .before .before .before .before .before .before .before .step) .given .0 .0 .end)) _ _ _ ((c .before .before .before .before .content-after-comment3) .ensures _)) (omega (arith, (told _ _ _ _ _ ((c .before .before .before .before .before .before .before .before .before .before .before .before .before .before .next) .ensures) ((c .before .before .before .before .before .before .before .before .before .before .before .before .step) .given .1)) .on)) ((told _ _ _ _ _ ((c .before .before .before .before .before .before .before .before .before .before .before .before .before .before .next) .ensures) ((c .before .before .before .before .before .before .before .before .before .before .before .before .step) .given .1)) .base) ((told _ _ _ _ _ ((c .before .before .before .before .before .before .before .before .before .before .before .before .before .before .next) .ensures) ((c .before .before .before .before .before .before .before .before .before .before .before .before .step) .given .1)) .good), ((c .before .before .before .before .content-after-comment3 .kept .1 .1 .1 .0)) ∙ (c .before .before .before .before .before .before .before .before .before .before .before .before .before .before .before .loop) .inv .1, ((c .before .before .before .before .content-after-comment3 .kept .1 .1 .1 .1 .0)) ∙ (c .before .before .before .before .before .before .before .before .before .before .before .before .before .before .before .loop) .inv .2)
 
-emit-requires-7 : tie.Need-emit-requires-7 Inv-loop μ-loop
-emit-requires-7 c κs = search needs
+emit-requires-4 : tie.Need-emit-requires-4 Inv-loop μ-loop
+emit-requires-4 c κs = search needs
 
 loop-less-6 : tie.Need-loop-less-6 Inv-loop μ-loop
 loop-less-6 c = omega (arith, (told _ _ _ _ _ ((c .before .before .before .before .before .before .before .before .before .before .before .next) .ensures) ((c .before .before .before .before .before .before .before .before .before .step) .given .1)) .left, (told _ _ _ _ _ ((c .before .before .before .before .before .before .before .before .before .before .before .next) .ensures) ((c .before .before .before .before .before .before .before .before .before .step) .given .1)) .on)
@@ -154,7 +145,7 @@ loop-less-6 c = omega (arith, (told _ _ _ _ _ ((c .before .before .before .befor
 loop-again-6 : tie.Need-loop-again-6 Inv-loop μ-loop
 loop-again-6 c =
     rw ((c .before .before .before .before .if3) .left)
-    (again ((c .before .before .before .before .before .before .before .before .before .before .before .before .loop) .inv .0) _ _ _ ((line-at _ _ _ _ (told _ _ _ _ _ ((c .before .before .before .before .before .before .before .before .before .before .before .next) .ensures) ((c .before .before .before .before .before .before .before .before .before .step) .given .1)) _ _ ((c .before .before .before .before .before .before .before .in-line) .ensures) ((c .before .before .before .before .before .enum-told6) .given .1) _ _ ((c .before .before .before .before .before .before .before .before .before .before .before .before .loop) .after) _ ((c .before .before .before .before .before .before .before .before .before .before .before .before .loop) .start)) ((c .before .before .before .before .if3) .left) ∙ ((first-item _ _ _ _ _ (c .before .before .emit7 .ensures _ _)))) (omega (arith, (told _ _ _ _ _ ((c .before .before .before .before .before .before .before .before .before .before .before .next) .ensures) ((c .before .before .before .before .before .before .before .before .before .step) .given .1)) .on)) ((told _ _ _ _ _ ((c .before .before .before .before .before .before .before .before .before .before .before .next) .ensures) ((c .before .before .before .before .before .before .before .before .before .step) .given .1)) .base) ((told _ _ _ _ _ ((c .before .before .before .before .before .before .before .before .before .before .before .next) .ensures) ((c .before .before .before .before .before .before .before .before .before .step) .given .1)) .good), ((c .before .before .emit7 .kept .0)) ∙ (c .before .before .before .before .before .before .before .before .before .before .before .before .loop) .inv .1, (refl) ∙ (c .before .before .before .before .before .before .before .before .before .before .before .before .loop) .inv .2)
+    (again ((c .before .before .before .before .before .before .before .before .before .before .before .before .loop) .inv .0) _ _ _ ((line-at _ _ _ _ (told _ _ _ _ _ ((c .before .before .before .before .before .before .before .before .before .before .before .next) .ensures) ((c .before .before .before .before .before .before .before .before .before .step) .given .1)) _ _ ((c .before .before .before .before .before .before .before .in-line) .ensures) ((c .before .before .before .before .before .enum-told6) .given .1) _ _ ((c .before .before .before .before .before .before .before .before .before .before .before .before .loop) .after) _ ((c .before .before .before .before .before .before .before .before .before .before .before .before .loop) .start)) ((c .before .before .before .before .if3) .left) ∙ ((first-item _ _ _ _ _ (c .before .before .emit4 .ensures _ _)))) (omega (arith, (told _ _ _ _ _ ((c .before .before .before .before .before .before .before .before .before .before .before .next) .ensures) ((c .before .before .before .before .before .before .before .before .before .step) .given .1)) .on)) ((told _ _ _ _ _ ((c .before .before .before .before .before .before .before .before .before .before .before .next) .ensures) ((c .before .before .before .before .before .before .before .before .before .step) .given .1)) .base) ((told _ _ _ _ _ ((c .before .before .before .before .before .before .before .before .before .before .before .next) .ensures) ((c .before .before .before .before .before .before .before .before .before .step) .given .1)) .good), ((c .before .before .emit4 .kept .0)) ∙ (c .before .before .before .before .before .before .before .before .before .before .before .before .loop) .inv .1, (refl) ∙ (c .before .before .before .before .before .before .before .before .before .before .before .before .loop) .inv .2)
 
 pub to-line-end-spec : {M : Type 1} → statement M
 to-line-end-spec =
@@ -180,26 +171,23 @@ to-line-end-spec =
     same-length-6
     returns-3
     enum-told-4
-    report-requires
-    emit-requires-2
+    content-after-comment-requires
     loop-less
     loop-again
-    emit-requires-3
+    emit-requires-2
     loop-less-2
     loop-again-2
     enum-told-5
-    report-requires-2
-    emit-requires-4
+    content-after-comment-requires-2
     loop-less-3
     loop-again-3
-    emit-requires-5
+    emit-requires-3
     loop-less-4
     loop-again-4
     enum-told-6
-    report-requires-3
-    emit-requires-6
+    content-after-comment-requires-3
     loop-less-5
     loop-again-5
-    emit-requires-7
+    emit-requires-4
     loop-less-6
     loop-again-6)

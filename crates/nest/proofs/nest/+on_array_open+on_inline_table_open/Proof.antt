@@ -13,8 +13,8 @@ use Rattle.rules.specs.Turns.{turns, looping}
 use Rattle.rules.specs.Array.{arrayTurn}
 use Rattle.rules.specs.InlineTable.{inlineTableTurn}
 use Rattle.rules.specs.Nest.{onOpen}
-use Rattle.lines.specs.Pour.{bufs}
-use Rattle.lines.specs.TurnLaws.{Turns, turns-begun}
+use Rattle.output.specs.Pour.{bufs}
+use Rattle.output.specs.TurnLaws.{Turns, turns-begun}
 use Rattle.nest.specs.NestedLaws.{nested-item, nested-as}
 use Rattle.nest.proofs.NestLaws.{turn-moved, turn-next, turn-over, array-moved, table-moved, array-again, array-stop, table-again, table-stop, open-array, open-table, no-level}
 use borrow.Author.Needs.{needs}
@@ -26,9 +26,9 @@ use Rattle.nest.proofs.nest.+on_array_open+on_inline_table_open.Lts-on_
 use Rattle.nest.proofs.nest.on_inline_table_open.Reads as on-inline-table-open
 use Rattle.nest.proofs.nest.on_inline_table_open.Kinds as on-inline-table-open-kinds
 use Rattle.nest.proofs.nest.+on_array_open+on_inline_table_open.Lts-on_inline_table_open as on-inline-table-open-lts
-use Rattle.lines.proofs.emitting.emit.Reads as emit-reads
-use Rattle.nest.proofs.array.array_turn.Reads as array-turn-reads
-use Rattle.nest.proofs.inline_table.inline_table_turn.Reads as inline-table-turn-reads
+use Rattle.output.proofs.emitting.emit.Reads as emit-reads
+use Rattle.arrays.proofs.array.array_turn.Reads as array-turn-reads
+use Rattle.inline.proofs.inline_table.inline_table_turn.Reads as inline-table-turn-reads
 use Rattle.nest.proofs.nest.+on_array_open+on_inline_table_open.{statement}
 use Rattle.nest.proofs.nest.+on_array_open+on_inline_table_open.Tie.{close}
 

@@ -1,103 +1,54 @@
--- The loop goes record by record; what the check still says from here is what it says from the start.
+-- Refusals 1, 2 and 5 for the base; then the records decide.
 -- Made by ./proofs from Proof.tmpl: change that.
 use mathlib.Core.Path.{_≡_, refl, sym, _∙_}
 use native.Mathlib.Omega.{arith}
 use borrow.Author.Tests.{lt-ltb, le-ltb, eq-eqb, ne-eqb}
-use Prim.Native.Nat.{ℕ, _+_, _-_, _≤_, _<_}
-use Rattle.token.specs.declared.check.Checked.{Checked}
+use Prim.Native.Nat.{_<_}
 use Rattle.token.specs.Limits.{maxEnd}
-use Rattle.token.specs.Records.{count, lengthAt, kindNumberAt}
-use Rattle.token.specs.Check.{recordRefusal, checkedFrom, checked}
-use Rattle.token.specs.CheckLaws.{from-passed, from-refused, from-end, record-passed, checked-records}
+use Rattle.token.specs.Check.{checked}
+use Rattle.token.specs.CheckLaws.{checked-records, passed-is}
 use borrow.Author.Needs.{needs}
 use Rattle.token.proofs.check.check.Statement.{statement}
 use Rattle.token.proofs.check.check.Tie as tie
 
-abbrev Inv-loop : tie.InvT-loop
-Inv-loop s base n place₀ i₀ place i =
-    (checkedFrom (count s - i) s i place ≡ checkedFrom (count s - i₀) s i₀ place₀) × (place ≤ maxEnd)
-
-abbrev μ-loop : tie.MeasureT-loop
-μ-loop s base n place₀ i₀ place i = count s - i
-
-returns : tie.Need-returns Inv-loop μ-loop
+returns : tie.Need-returns
 unfolding checked
 returns c = simp (ne-eqb _ _ ((c .if1) .taken))
 
-returns-2 : tie.Need-returns-2 Inv-loop μ-loop
+returns-2 : tie.Need-returns-2
 unfolding checked
 returns-2 c = simp (eq-eqb _ _ ((c .before .if1) .left), lt-ltb _ _ ((c .if2) .taken))
 
-widened-requires : tie.Need-widened-requires Inv-loop μ-loop
+widened-requires : tie.Need-widened-requires
 widened-requires c κs = search needs
 
-returns-3 : tie.Need-returns-3 Inv-loop μ-loop
+returns-3 : tie.Need-returns-3
 unfolding checked
 returns-3 c =
     let h : maxEnd < (c .before .before .before .before .before .args) .base = omega (arith, (c .if3) .taken, (c .before .widened) .ensures .0) in
     simp (eq-eqb _ _ ((c .before .before .before .if1) .left), le-ltb _ _ ((c .before .before .if2) .left), lt-ltb _ _ h)
 
-loop-holds : tie.Need-loop-holds Inv-loop μ-loop
-loop-holds c = (refl, omega (arith, (c .if3) .left))
+all-pass-requires : tie.Need-all-pass-requires
+all-pass-requires c κs = ((c .before .before .if2) .left, (c .if3) .left)
 
-length-at-requires : tie.Need-length-at-requires Inv-loop μ-loop
-length-at-requires c κs = search needs
+returns-4 : tie.Need-returns-4
+returns-4 c = sym (passed-is _ (sym ((c .before .all-pass) .ensures) ∙ (c .if4) .taken)) ∙ (checked-records _ _ _ ((c .before .before .before .before .before .if1) .left) ((c .before .before .before .before .if2) .left) (omega (arith, (c .before .before .if3) .left)) ((c .before .before .before .widened) .ensures .0))
 
-widened-requires-2 : tie.Need-widened-requires-2 Inv-loop μ-loop
-widened-requires-2 c κs = search needs
+first-refused-requires : tie.Need-first-refused-requires
+first-refused-requires c κs = (c .before .before .if3) .left
 
-add-end : tie.Need-add-end Inv-loop μ-loop
-add-end c = omega (arith, (c .before .before .before .loop) .inv .1, (c .widened2) .ensures .1)
-
-kind-number-at-requires : tie.Need-kind-number-at-requires Inv-loop μ-loop
-kind-number-at-requires c κs = search needs
-
-record-refusal-requires : tie.Need-record-refusal-requires Inv-loop μ-loop
-record-refusal-requires c κs = search needs
-
-returns-4 : tie.Need-returns-4 Inv-loop μ-loop
-returns-4 c =
-    let e : (c .before .record-refusal) .result ≡ recordRefusal (kindNumberAt ((c .before .before .before .before .before .before .before .before .before .before .before .before .args) .s .now) ((c .before .before .before .before .before .before .loop) .i)) (lengthAt ((c .before .before .before .before .before .before .before .before .before .before .before .before .args) .s .now) ((c .before .before .before .before .before .before .loop) .i)) ((c .before .before .before .before .before .before .loop) .place + lengthAt ((c .before .before .before .before .before .before .before .before .before .before .before .before .args) .s .now) ((c .before .before .before .before .before .before .loop) .i)) = cc in
-    sym (from-refused _ _ _ _ ((c .before .before .before .before .before .loop-test) .taken) e ((c .if4) .taken)) ∙ (c .before .before .before .before .before .before .loop) .inv .0
-    ∙ checked-records _ _ _ ((c .before .before .before .before .before .before .before .before .before .before .if1) .left) ((c .before .before .before .before .before .before .before .before .before .if2) .left) (omega (arith, (c .before .before .before .before .before .before .before .if3) .left)) ((c .before .before .before .before .before .before .before .before .widened) .ensures .0)
-
-add-i : tie.Need-add-i Inv-loop μ-loop
-add-i c = search needs
-
-loop-less : tie.Need-loop-less Inv-loop μ-loop
-loop-less c = search needs
-
-loop-again : tie.Need-loop-again Inv-loop μ-loop
-loop-again c =
-    let e : (c .before .record-refusal) .result ≡ recordRefusal (kindNumberAt ((c .before .before .before .before .before .before .before .before .before .before .before .before .args) .s .now) ((c .before .before .before .before .before .before .loop) .i)) (lengthAt ((c .before .before .before .before .before .before .before .before .before .before .before .before .args) .s .now) ((c .before .before .before .before .before .before .loop) .i)) ((c .before .before .before .before .before .before .loop) .place + lengthAt ((c .before .before .before .before .before .before .before .before .before .before .before .before .args) .s .now) ((c .before .before .before .before .before .before .loop) .i)) = cc in
-    let w : (c .before .before .before .widened2) .result ≡ lengthAt ((c .before .before .before .before .before .before .before .before .before .before .before .before .args) .s .now) ((c .before .before .before .before .before .before .loop) .i) = (c .before .before .before .widened2) .ensures .0 ∙ (c .before .before .before .before .length-at) .ensures in (
-      rw w (sym (from-passed _ _ _ _ ((c .before .before .before .before .before .loop-test) .taken) e ((c .if4) .left)) ∙ (c .before .before .before .before .before .before .loop) .inv .0),
-      rw w (record-passed (kindNumberAt ((c .before .before .before .before .before .before .before .before .before .before .before .before .args) .s .now) ((c .before .before .before .before .before .before .loop) .i)) (lengthAt ((c .before .before .before .before .before .before .before .before .before .before .before .before .args) .s .now) ((c .before .before .before .before .before .before .loop) .i)) _ (sym e ∙ (c .if4) .left) .1),
-    )
-
-returns-5 : tie.Need-returns-5 Inv-loop μ-loop
-returns-5 c =
-    sym (from-end ((c .before .before .before .before .before .before .before .args) .s .now) ((c .before .loop) .i) ((c .before .loop) .place) ((c .loop-test) .left)) ∙ (c .before .loop) .inv .0
-    ∙ checked-records _ _ _ ((c .before .before .before .before .before .if1) .left) ((c .before .before .before .before .if2) .left) (omega (arith, (c .before .before .if3) .left)) ((c .before .before .before .widened) .ensures .0)
+returns-5 : tie.Need-returns-5
+returns-5 c = (c .first-refused) .ensures ∙ (checked-records _ _ _ ((c .before .before .before .before .before .before .if1) .left) ((c .before .before .before .before .before .if2) .left) (omega (arith, (c .before .before .before .if3) .left)) ((c .before .before .before .before .widened) .ensures .0))
 
 pub check-spec : {M : Type 1} → statement M
 check-spec =
     tie.close
     (tie.spec
-    Inv-loop
-    μ-loop
     returns
     returns-2
     widened-requires
     returns-3
-    loop-holds
-    length-at-requires
-    widened-requires-2
-    add-end
-    kind-number-at-requires
-    record-refusal-requires
+    all-pass-requires
     returns-4
-    add-i
-    loop-less
-    loop-again
+    first-refused-requires
     returns-5)

@@ -3,9 +3,8 @@
 use mathlib.Core.Path.{_≡_, sym, ap, _∙_}
 use mathlib.Core.Bool.{Bool, true, false}
 use borrow.Author.Tests.{lt-ltb, le-ltb}
-use Rattle.token.specs.declared.kind.Kind.{Kind}
-use Rattle.token.specs.declared.kind.Width.{Width}
 use Rattle.token.specs.Kinds.{kindOf, widthOf, widthFits}
+use Rattle.token.specs.CheckLaws.{fits-by}
 use borrow.Author.Needs.{needs}
 use Rattle.token.proofs.check.record_refusal.Statement.{statement}
 use Rattle.token.proofs.check.record_refusal.Tie as tie
@@ -16,29 +15,23 @@ returns c = simp (lt-ltb _ _ ((c .if1) .taken))
 returns-2 : tie.Need-returns-2
 returns-2 c = simp (le-ltb _ _ ((c .before .if1) .left), lt-ltb _ _ ((c .if2) .taken))
 
-kind-of-requires : tie.Need-kind-of-requires
-kind-of-requires c κs = search needs
-
-width-of-requires : tie.Need-width-of-requires
-width-of-requires c κs = search needs
-
-width-fits-requires : tie.Need-width-fits-requires
-width-fits-requires c κs = search needs
+record-fits-requires : tie.Need-record-fits-requires
+record-fits-requires c κs = search needs
 
 returns-3 : tie.Need-returns-3
 returns-3 c =
-    let w : widthFits (widthOf (kindOf ((c .before .before .before .before .before .before .before .args) .kind))) ((c .before .before .before .before .before .before .before .args) .length) ≡ true = cc in
-    simp (le-ltb _ _ ((c .before .before .before .before .before .before .if1) .left), le-ltb _ _ ((c .before .before .before .before .before .if2) .left), w, lt-ltb _ _ ((c .if4) .taken))
+    let w : widthFits (widthOf (kindOf ((c .before .before .before .before .before .args) .kind))) ((c .before .before .before .before .before .args) .length) ≡ true = (sym (fits-by ((c .before .before .before .before .before .args) .kind) ((c .before .before .before .before .before .args) .length) ((c .before .before .before .before .if1) .left) ((c .before .before .before .if2) .left)) ∙ sym ((c .before .before .record-fits) .ensures)) ∙ (c .before .if3) .taken in
+    simp (le-ltb _ _ ((c .before .before .before .before .if1) .left), le-ltb _ _ ((c .before .before .before .if2) .left), w, lt-ltb _ _ ((c .if4) .taken))
 
 returns-4 : tie.Need-returns-4
 returns-4 c =
-    let w : widthFits (widthOf (kindOf ((c .before .before .before .before .before .before .before .args) .kind))) ((c .before .before .before .before .before .before .before .args) .length) ≡ true = cc in
-    simp (le-ltb _ _ ((c .before .before .before .before .before .before .if1) .left), le-ltb _ _ ((c .before .before .before .before .before .if2) .left), w, le-ltb _ _ ((c .if4) .left))
+    let w : widthFits (widthOf (kindOf ((c .before .before .before .before .before .args) .kind))) ((c .before .before .before .before .before .args) .length) ≡ true = (sym (fits-by ((c .before .before .before .before .before .args) .kind) ((c .before .before .before .before .before .args) .length) ((c .before .before .before .before .if1) .left) ((c .before .before .before .if2) .left)) ∙ sym ((c .before .before .record-fits) .ensures)) ∙ (c .before .if3) .taken in
+    simp (le-ltb _ _ ((c .before .before .before .before .if1) .left), le-ltb _ _ ((c .before .before .before .if2) .left), w, le-ltb _ _ ((c .if4) .left))
 
 returns-5 : tie.Need-returns-5
 returns-5 c =
-    let w : widthFits (widthOf (kindOf ((c .before .before .before .before .before .before .args) .kind))) ((c .before .before .before .before .before .before .args) .length) ≡ false = cc in
-    simp (le-ltb _ _ ((c .before .before .before .before .before .if1) .left), le-ltb _ _ ((c .before .before .before .before .if2) .left), w)
+    let w : widthFits (widthOf (kindOf ((c .before .before .before .before .args) .kind))) ((c .before .before .before .before .args) .length) ≡ false = (sym (fits-by ((c .before .before .before .before .args) .kind) ((c .before .before .before .before .args) .length) ((c .before .before .before .if1) .left) ((c .before .before .if2) .left)) ∙ sym ((c .before .record-fits) .ensures)) ∙ (c .if3) .left in
+    simp (le-ltb _ _ ((c .before .before .before .if1) .left), le-ltb _ _ ((c .before .before .if2) .left), w)
 
 pub record-refusal-spec : {M : Type 1} → statement M
 record-refusal-spec =
@@ -46,9 +39,7 @@ record-refusal-spec =
     (tie.spec
     returns
     returns-2
-    kind-of-requires
-    width-of-requires
-    width-fits-requires
+    record-fits-requires
     returns-3
     returns-4
     returns-5)

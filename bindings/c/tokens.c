@@ -1,0 +1,63 @@
+/* Tests deckmarten_parse_tokens: for the lists of limits.c, and for wrong ones, it must answer and leave what deckmarten_parse_document
+ * does for the records of the same lengths and kinds. */
+#include <stdio.h>
+#include <stdlib.h>
+
+#include "deckmarten.h"
+#include "lists.h"
+
+#define MOST ((size_t)DECKMARTEN_LIMIT_RECORDS + 1)
+#define EVENT_WORDS DECKMARTEN_EVENT_WORDS(MOST)
+#define ERROR_WORDS DECKMARTEN_ERROR_WORDS(MOST)
+#define UNTOUCHED 0xa5
+
+static uint8_t records[DECKMARTEN_SIZE_RECORD * MOST];
+static struct deckmarten_token tokens[MOST];
+static uint32_t events[2][EVENT_WORDS], errors[2][ERROR_WORDS];
+static int compared;
+
+/* Compares the two entries on the first so many records. */
+static void compare(const char *name, size_t count, uint32_t base) {
+    memset(events, UNTOUCHED, sizeof events);
+    memset(errors, UNTOUCHED, sizeof errors);
+    for (size_t i = 0; i < count; i++) {
+        const uint8_t *record = records + DECKMARTEN_SIZE_RECORD * i;
+        tokens[i].length = record[0] + 256u * record[1] + 65536u * record[2] + 16777216u * record[3];
+        tokens[i].kind = (uint16_t)(record[4] + 256u * record[5]);
+    }
+    struct deckmarten_answer a = deckmarten_parse_tokens(tokens, count, base, events[0], EVENT_WORDS, errors[0], ERROR_WORDS);
+    struct deckmarten_answer b =
+        deckmarten_parse_document(records, DECKMARTEN_SIZE_RECORD * count, base, events[1], EVENT_WORDS, errors[1], ERROR_WORDS);
+    compared++;
+    if (a.refusal == b.refusal && a.place == b.place && a.events == b.events && a.errors == b.errors &&
+        !memcmp(events[0], events[1], sizeof events[0]) && !memcmp(errors[0], errors[1], sizeof errors[0]))
+        return;
+    fprintf(stderr, "tokens: %s: %u %zu %zu %zu from tokens, %u %zu %zu %zu from records, or the buffers differ\n", name, a.refusal, a.place,
+            a.events, a.errors, b.refusal, b.place, b.events, b.errors);
+    exit(1);
+}
+
+/* Three records, the second with these bytes. */
+static void compare_wrong(const char *name, const char *bytes) {
+    write_text("a=a", records);
+    memcpy(records + DECKMARTEN_SIZE_RECORD, bytes, DECKMARTEN_SIZE_RECORD);
+    compare(name, 3, 0);
+}
+
+int main(void) {
+    for (int i = 0; i < LISTS; i++) {
+        write_records(&lists[i], records);
+        compare(lists[i].name, count_records(&lists[i]), 7);
+    }
+    compare("no token", 0, DECKMARTEN_LIMIT_BYTES);
+    compare("base too high", 1, DECKMARTEN_LIMIT_BYTES + 1);
+    compare_wrong("kind 0", "\1\0\0\0\0\0");
+    compare_wrong("kind 17", "\1\0\0\0\21\0");
+    compare_wrong("kind 256 and more", "\1\0\0\0\17\1");
+    compare_wrong("length 0", "\0\0\0\0\17\0");
+    compare_wrong("the greatest length", "\377\377\377\377\17\0");
+    for (size_t i = 0; i < MOST; i++) write_text("a", records + DECKMARTEN_SIZE_RECORD * i);
+    compare("a record too many", MOST, 0);
+    printf("%d lists of tokens are read as their records\n", compared);
+    return 0;
+}

@@ -1,0 +1,31 @@
+//! Places in the text.
+
+use std::fmt;
+use std::ops::Range;
+
+/// A part of the text, from the place of its first byte to the place after its last.
+#[derive(Clone, Copy, Debug, PartialEq, Eq, Hash)]
+pub struct Span {
+    /// The place of the first byte.
+    pub start: u32,
+    /// The place after the last byte.
+    pub end: u32,
+}
+
+impl Span {
+    /// Whether it has no byte. Such an event was invented, or is a bracket that was given up.
+    pub const fn is_empty(self) -> bool {
+        self.start == self.end
+    }
+
+    /// The range to take from the text, if `base` was 0.
+    pub const fn range(self) -> Range<usize> {
+        self.start as usize..self.end as usize
+    }
+}
+
+impl fmt::Display for Span {
+    fn fmt(&self, f: &mut fmt::Formatter<'_>) -> fmt::Result {
+        write!(f, "{}..{}", self.start, self.end)
+    }
+}

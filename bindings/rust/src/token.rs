@@ -1,0 +1,120 @@
+//! Tokens, and the records that hand them to the library.
+
+use crate::limits::RECORD_SIZE;
+use crate::numbered::numbered;
+
+numbered! {
+    /// The kind of a token. `Display` prints what the token is.
+    #[repr(u16)]
+    TokenKind {
+        /// One byte.
+        Dot = 1 => "`.`",
+        /// One byte.
+        Equals = 2 => "`=`",
+        /// One byte.
+        Comma = 3 => "`,`",
+        /// One byte.
+        LeftSquareBracket = 4 => "`[`",
+        /// One byte.
+        RightSquareBracket = 5 => "`]`",
+        /// One byte.
+        LeftCurlyBracket = 6 => "`{`",
+        /// One byte.
+        RightCurlyBracket = 7 => "`}`",
+        /// Spaces and tabs.
+        Whitespace = 8 => "whitespace",
+        /// `#` and what follows it, without the line's end.
+        Comment = 9 => "comment",
+        /// The line's end.
+        Newline = 10 => "newline",
+        /// `'..'`
+        LiteralString = 11 => "literal string",
+        /// `".."`
+        BasicString = 12 => "basic string",
+        /// `'''..'''`
+        MlLiteralString = 13 => "multi-line literal string",
+        /// `""".."""`
+        MlBasicString = 14 => "multi-line basic string",
+        /// A run of other bytes: a bare key, a number, a date, a word.
+        Atom = 15 => "unquoted text",
+        /// No byte.
+        Eof = 16 => "end of the text",
+    }
+}
+
+/// A token: its kind, and how many bytes of the text it takes. In memory it is `struct deckmarten_token` of include/deckmarten.h.
+#[derive(Clone, Copy, Debug, PartialEq, Eq, Hash)]
+#[repr(C)]
+pub struct Token {
+    /// How many bytes it has: 0 for Eof, 1 for the kinds of one byte, at least 1 for the others.
+    pub length: u32,
+    /// What it is.
+    pub kind: TokenKind,
+}
+
+impl Token {
+    /// A token of this kind and length.
+    pub const fn new(kind: TokenKind, length: u32) -> Token {
+        Token { kind, length }
+    }
+
+    /// Its record: the length in 4 bytes, then the kind in 2, both least byte first.
+    pub const fn record(self) -> [u8; RECORD_SIZE] {
+        let [a, b, c, d] = self.length.to_le_bytes();
+        let [kind, ..] = self.kind.number().to_le_bytes();
+        [a, b, c, d, kind, 0]
+    }
+}
+
+/// A list of token records, in the order of the text.
+///
+/// A length that is wrong for its kind is taken here. The library refuses it with [`Refusal::Length`](crate::Refusal::Length).
+///
+/// ```
+/// use deckmarten::{Records, Token, TokenKind};
+///
+/// let mut records = Records::new();
+/// records.push(Token::new(TokenKind::Atom, 4));
+/// records.push(Token::new(TokenKind::Eof, 0));
+/// assert_eq!(records.as_bytes(), [4, 0, 0, 0, 15, 0, 0, 0, 0, 0, 16, 0]);
+/// ```
+#[derive(Clone, Debug, Default, PartialEq, Eq, Hash)]
+pub struct Records {
+    bytes: Vec<u8>,
+}
+
+impl Records {
+    /// An empty list.
+    pub fn new() -> Records {
+        Records::default()
+    }
+
+    /// Adds a token at the end.
+    pub fn push(&mut self, token: Token) {
+        self.bytes.extend_from_slice(&token.record());
+    }
+
+    /// How many records there are.
+    pub fn count(&self) -> usize {
+        self.bytes.len() / RECORD_SIZE
+    }
+
+    /// The bytes that the library reads.
+    pub fn as_bytes(&self) -> &[u8] {
+        &self.bytes
+    }
+}
+
+impl Extend<Token> for Records {
+    fn extend<I: IntoIterator<Item = Token>>(&mut self, tokens: I) {
+        tokens.into_iter().for_each(|token| self.push(token));
+    }
+}
+
+impl FromIterator<Token> for Records {
+    fn from_iter<I: IntoIterator<Item = Token>>(tokens: I) -> Records {
+        let mut records = Records::new();
+        records.extend(tokens);
+        records
+    }
+}

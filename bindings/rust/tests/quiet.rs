@@ -1,0 +1,70 @@
+//! For the program that wants yes or no: quiet and fitting lists, and lists that only seem so.
+
+mod common;
+
+use common::records;
+use deckmarten::{fits, is_regular, parse_document, Entry, Refusal, Room};
+
+#[test]
+fn documents_fit() {
+    for text in ["$", " $", "a=1$", "a=1\n$", "#\n[a.b]\nc='\n\n[[d]]\n e={f=[1,2\n,3,],g=\"} #\n$"] {
+        assert!(fits(records(text).as_bytes(), 0), "{text:?}");
+    }
+}
+
+#[test]
+fn lists_without_an_error_report_need_not_fit() {
+    let mut room = Room::new();
+    for text in ["[=x]\n$", "[]$", "a=\n$"] {
+        let records = records(text);
+        let answer = room.parse(Entry::Document, records.as_bytes(), 0);
+        assert_eq!((answer.refusal(), answer.error_count(), answer.is_quiet()), (None, 0, false), "{text:?}");
+        assert!(!fits(records.as_bytes(), 0), "{text:?}");
+    }
+}
+
+#[test]
+fn irregular_lists_do_not_fit_even_if_quiet() {
+    let mut room = Room::new();
+    for text in ["", "a", "a=1", "a=1\n", "$$", "$$b", "a=1$b=2$", "  $"] {
+        let records = records(text);
+        assert!(room.parse(Entry::Document, records.as_bytes(), 0).is_quiet(), "{text:?}");
+        assert!(!is_regular(records.as_bytes()) && !fits(records.as_bytes(), 0), "{text:?}");
+    }
+    assert!(is_regular(records(" a = 1 $").as_bytes()));
+}
+
+#[test]
+fn too_little_room_is_never_quiet() {
+    let records = records("a=1\nb=2\n$");
+    let wanted = 8;
+    for words in 0..=4 * wanted {
+        let mut events = vec![7; words];
+        let answer = parse_document(records.as_bytes(), 0, &mut events, &mut []);
+        assert_eq!((answer.event_count(), answer.events().len()), (wanted, words / 4));
+        assert_eq!(answer.refusal(), (words < 4 * wanted).then_some(Refusal::Events));
+        assert_eq!(answer.is_quiet(), words == 4 * wanted);
+    }
+}
+
+#[test]
+fn an_error_that_does_not_fit_is_not_quiet() {
+    let records = records("a\n$");
+    let (mut events, mut errors) = ([0; 8], [0; 5]);
+    let answer = parse_document(records.as_bytes(), 0, &mut events, &mut errors);
+    assert_eq!(answer.refusal(), Some(Refusal::Errors));
+    assert_eq!((answer.error_count(), answer.errors().len(), answer.is_quiet()), (1, 0, false));
+}
+
+#[test]
+fn refused_lists_do_not_fit() {
+    let good = records("a=1$");
+    assert!(fits(good.as_bytes(), 0));
+    assert!(!fits(&good.as_bytes()[1..], 0));
+    assert!(!fits(good.as_bytes(), 16_777_214));
+    assert!(fits(good.as_bytes(), 16_777_213));
+    assert!(!fits(records(&format!("a={}1{}$", "[".repeat(65), "]".repeat(65))).as_bytes(), 0));
+    assert!(fits(records(&format!("a={}1{}$", "[".repeat(64), "]".repeat(64))).as_bytes(), 0));
+    assert!(fits(records(&format!("{}$", "\n".repeat(65_535))).as_bytes(), 0));
+    assert!(!fits(records(&format!("{}$", "\n".repeat(65_536))).as_bytes(), 0));
+}

@@ -1,0 +1,3 @@
+// One turn in an array, proved equal to its rule.
+pub mod array;
+pub mod turn;

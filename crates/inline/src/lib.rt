@@ -1,0 +1,3 @@
+// One turn in an inline table, proved equal to its rule.
+pub mod inline_table;
+pub mod table_turn;

@@ -1,0 +1,2 @@
+pub mod KeyWalks
+pub mod DotLaws

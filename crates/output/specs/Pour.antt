@@ -1,0 +1,72 @@
+-- From items to the two lent buffers, one item at a time: how the code emits. Assumes nothing.
+use mathlib.Core.Bool.{Bool, true, false, cond}
+use mathlib.Core.List.{List, [], _∷_}
+use Prim.Native.Nat.{ℕ, _+_, _*_, _/_}
+use lib.ListN.{length, set}
+use lib.Dec.{ltb}
+use Rattle.token.specs.Tokens.{Tok}
+use Rattle.token.specs.Spans.{spanAfter}
+use Rattle.token.specs.declared.span.Span.{Span}
+use Rattle.rules.specs.declared.event.Event.{Event}
+use Rattle.rules.specs.Out.{Item, event, eventAfter, report, stop}
+use Rattle.rules.specs.Words.{eventNumber, encodingOf, lookedUp, spanOf, Halt, ended, refusedLevel}
+use Rattle.output.specs.declared.emitting.Counts.{Counts}
+
+-- entry i of a buffer, if there is room for it
+unfoldable pub putEvent : List ℕ → ℕ → ℕ → ℕ → ℕ → ℕ → List ℕ
+putEvent l i a b c d = cond (ltb i (length l / 4)) (set (set (set (set l (i * 4) a) (i * 4 + 1) b) (i * 4 + 2) c) (i * 4 + 3) d) l
+
+unfoldable pub putError : List ℕ → ℕ → ℕ → ℕ → ℕ → ℕ → ℕ → ℕ → List ℕ
+putError l i a b c d e f = cond (ltb i (length l / 6)) (set (set (set (set (set (set l (i * 6) a) (i * 6 + 1) b) (i * 6 + 2) c) (i * 6 + 3) d) (i * 6 + 4) e) (i * 6 + 5) f) l
+
+-- one more, up to a bound that no list of the rules reaches
+unfoldable pub more : ℕ → ℕ
+more n = cond (ltb n 4294967295) (n + 1) n
+
+-- the two buffers, their counts, and whether the walk goes on
+pub record Bufs : Type 0 where
+  pub events : List ℕ
+  pub errors : List ℕ
+  pub n : Counts
+  pub halt : Halt
+
+abbrev pub withEvent : Event → Span → Bufs → Bufs
+withEvent g p o =
+    record {
+      events = putEvent (o .events) (o .n .events) (eventNumber g) (encodingOf g) (p .start) (p .end);
+      errors = o .errors;
+      n = record { events = more (o .n .events); errors = o .n .errors };
+      halt = ended;
+    }
+
+abbrev pub withError : ℕ → ℕ → Span → Span → Bufs → Bufs
+withError m x c u o =
+    record {
+      events = o .events;
+      errors = putError (o .errors) (o .n .errors) m x (c .start) (c .end) (u .start) (u .end);
+      n = record { events = o .n .events; errors = more (o .n .errors) };
+      halt = ended;
+    }
+
+abbrev pub putBy : Halt → List Tok → Item → Bufs → Bufs
+putBy (refusedLevel n) all i o = o
+putBy ended all (event g a b) o = withEvent g (record { start = a; end = b }) o
+putBy ended all (eventAfter g l) o = withEvent g (spanAfter (lookedUp all l)) o
+putBy ended all (report m x c u) o = withError m x (spanOf all c) (spanOf all u) o
+putBy ended all (stop n) o = record { events = o .events; errors = o .errors; n = o .n; halt = refusedLevel n }
+
+-- one item, unless the walk was refused; `all` are all tokens of the input
+unfoldable pub put : List Tok → Item → Bufs → Bufs
+put all i o = putBy (o .halt) all i o
+
+-- the items of a walk, one after the other
+abbrev pub pour : List Tok → List Item → Bufs → Bufs
+pour all [] o = o
+pour all (i ∷ is) o = pour all is (put all i o)
+
+-- the buffers of a walk that goes on, and of one that was refused with k tokens left
+unfoldable pub bufs : List ℕ → List ℕ → Counts → Bufs
+bufs events errors n = record { events = events; errors = errors; n = n; halt = ended }
+
+unfoldable pub refused : List ℕ → List ℕ → Counts → ℕ → Bufs
+refused events errors n k = record { events = events; errors = errors; n = n; halt = refusedLevel k }

@@ -1,0 +1,160 @@
+// Emitting: an event of four words, an error of six, into the lent buffers. What does not fit is counted and not written.
+use rules::event::Encoding;
+use rules::event::Event;
+use rules::event::encoding_of;
+use rules::event::event_number;
+use token::cursor::Cursor;
+use token::cursor::Token;
+ghost use mathlib.Core.Path.{_≡_};
+ghost use mathlib.Core.List.{List};
+ghost use Prim.Native.Nat.{ℕ};
+ghost use Rattle.token.specs.Tokens.{Tok};
+ghost use Rattle.rules.specs.Out.{span};
+ghost use Rattle.rules.specs.Out as item;
+ghost use Rattle.output.specs.Pour.{more, putEvent, putError, put, bufs};
+
+// How many events and errors there are so far.
+pub struct Counts {
+    pub events: usize,
+    pub errors: usize,
+}
+
+// Where a walk ended, and the counts there.
+pub struct Walk {
+    pub cur: Cursor,
+    pub n: Counts,
+}
+
+// One more. The rules' lists never come near the bound, so that the counts are exact; it spares every contract a bound.
+fn one_more(i: usize) -> usize
+    ensures { λ r. ⌜ r ≡ more i ⌝ }
+{
+    if i < 4294967295 { i + 1 } else { i }
+}
+
+fn put_event(events: &mut [u32], i: usize, kind: u32, encoding: u32, start: u32, end: u32)
+    ensures { λ _. ⌜ now (events .exit) ≡ putEvent (now (events .entry)) i kind encoding start end ⌝ }
+{
+    if i < events.len() / 4 {
+        let b = i * 4;
+        events[b] = kind;
+        events[b + 1] = encoding;
+        events[b + 2] = start;
+        events[b + 3] = end;
+    }
+}
+
+fn put_error(
+    errors: &mut [u32],
+    i: usize,
+    message: u32,
+    expected: u32,
+    from: u32,
+    to: u32,
+    start: u32,
+    end: u32,
+)
+    ensures { λ _. ⌜ now (errors .exit) ≡ putError (now (errors .entry)) i message expected «from» to start end ⌝ }
+{
+    if i < errors.len() / 6 {
+        let b = i * 6;
+        errors[b] = message;
+        errors[b + 1] = expected;
+        errors[b + 2] = from;
+        errors[b + 3] = to;
+        errors[b + 4] = start;
+        errors[b + 5] = end;
+    }
+}
+
+// An event over start..end.
+pub fn emit(events: &mut [u32], n: Counts, event: Event, start: u32, end: u32) -> Counts
+    ensures { λ r. ⌜ ((all : List Tok) (errors : List ℕ) → bufs (now (events .exit)) errors r ≡ put all (item.event event start end) (bufs (now (events .entry)) errors n)) ⌝ }
+{
+    put_event(
+        events,
+        n.events,
+        event_number(event),
+        encoding_of(event),
+        start,
+        end,
+    );
+    Counts {
+        events: one_more(n.events),
+        errors: n.errors,
+    }
+}
+
+// An error: message, what was expected, the context from..to, the unexpected start..end.
+pub fn report(
+    errors: &mut [u32],
+    n: Counts,
+    message: u32,
+    expected: u32,
+    from: u32,
+    to: u32,
+    start: u32,
+    end: u32,
+) -> Counts
+    ensures { λ r. ⌜ ((all : List Tok) (events : List ℕ) → bufs events (now (errors .exit)) r ≡ put all (item.report message expected (span «from» to) (span start end)) (bufs events (now (errors .entry)) n)) ⌝ }
+{
+    put_error(errors, n.errors, message, expected, from, to, start, end);
+    Counts {
+        events: n.events,
+        errors: one_more(n.errors),
+    }
+}
+
+// An error at the token t, in the context of the token `head`.
+pub fn report_at(
+    errors: &mut [u32],
+    n: Counts,
+    message: u32,
+    expected: u32,
+    head: Token,
+    t: Token,
+) -> Counts
+    ensures { λ r. ⌜ ((all : List Tok) (events : List ℕ) → bufs events (now (errors .exit)) r ≡ put all (item.report message expected (span (head .start) (head .end)) (span (t .start) (t .end))) (bufs events (now (errors .entry)) n)) ⌝ }
+{
+    report(
+        errors,
+        n,
+        message,
+        expected,
+        head.start,
+        head.end,
+        t.start,
+        t.end,
+    )
+}
+
+// An error just before the token t, in the context of the token `head`.
+pub fn report_before(
+    errors: &mut [u32],
+    n: Counts,
+    message: u32,
+    expected: u32,
+    head: Token,
+    t: Token,
+) -> Counts
+    ensures { λ r. ⌜ ((all : List Tok) (events : List ℕ) → bufs events (now (errors .exit)) r ≡ put all (item.report message expected (span (head .start) (head .end)) (span (t .start) (t .start))) (bufs events (now (errors .entry)) n)) ⌝ }
+{
+    let place = t.start;
+    report(
+        errors,
+        n,
+        message,
+        expected,
+        head.start,
+        head.end,
+        place,
+        place,
+    )
+}
+
+// A key that is not there, invented at a place.
+pub fn empty_key(events: &mut [u32], n: Counts, place: u32) -> Counts
+    ensures { λ r. ⌜ ((all : List Tok) (errors : List ℕ) → bufs (now (events .exit)) errors r ≡ put all (item.event (Event.SimpleKey Encoding.None) place place) (bufs (now (events .entry)) errors n)) ⌝ }
+{
+    emit(events, n, Event::SimpleKey(Encoding::None), place, place)
+}

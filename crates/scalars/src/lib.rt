@@ -1,0 +1,2 @@
+// Scalars. Each function is proved equal to its rule.
+pub mod scalar;

@@ -1,0 +1,98 @@
+// The document entry over a lent list of token structs: they are copied into records, and the byte form parses these.
+pub mod theorems;
+
+use grammar::entries::parse_document;
+use rules::answer::Answer;
+use token::check::MAX_RECORDS;
+ghost use mathlib.Core.Path.{_≡_};
+ghost use mathlib.Core.List.{_++_};
+ghost use Prim.Native.Nat.{_+_, _*_, _≤_};
+ghost use lib.ListN.{length, take, drop};
+ghost use Rattle.rules.specs.Entries.{documentEntry};
+ghost use Rattle.grammar.specs.Answers.{Answers};
+ghost use Rattle.structs.specs.Structs.{recordsOf, putAt};
+
+// A token: its length in bytes, and the number of its kind.
+#[repr(C)]
+pub struct Token {
+    pub length: u32,
+    pub kind: u16,
+}
+
+// Room for as many records as a list may have, six bytes each.
+const RECORD_BYTES: usize = 393216;
+
+// Record i: the length, least byte first, then the kind, least byte first.
+fn put(records: &mut [u8], i: usize, t: Token)
+    requires { ⌜ 6 * i + 6 ≤ length (now records) ⌝ }
+    ensures { λ _. ⌜ now (records .exit) ≡ putAt (now (records .entry)) i t ⌝ }
+{
+    let at = 6 * i;
+    let length = t.length;
+    let kind = t.kind;
+    records[at] = (length % 256) as u8;
+    records[at + 1] = (length / 256 % 256) as u8;
+    records[at + 2] = (length / 65536 % 256) as u8;
+    records[at + 3] = (length / 16777216 % 256) as u8;
+    records[at + 4] = (kind % 256) as u8;
+    records[at + 5] = (kind / 256 % 256) as u8;
+}
+
+// The records of all structs, one after the other.
+fn copy(tokens: &[Token], records: &mut [u8])
+    requires { ⌜ 6 * length (now tokens) ≤ length (now records) ⌝ }
+    ensures { λ _. ⌜ now (records .exit) ≡ recordsOf (now (tokens .entry)) ++ drop (6 * length (now (tokens .entry))) (now (records .entry)) ⌝ }
+{
+    let mut i = 0;
+    while i < tokens.len() {
+        let t = tokens[i];
+        put(records, i, t);
+        i += 1;
+    }
+}
+
+// The byte form on the first n records.
+fn parse_records(
+    records: &mut [u8],
+    n: usize,
+    base: u32,
+    events: &mut [u32],
+    errors: &mut [u32],
+) -> Answer
+    requires { ⌜ 6 * n ≤ length (now records) ⌝ }
+    ensures { λ r. ⌜ Answers documentEntry (take (6 * n) (now (records .entry))) base (now (events .entry)) (now (errors .entry)) (now (events .exit)) (now (errors .exit)) r ⌝ }
+{
+    let end = 6 * n;
+    parse_document(&records[..end], base, events, errors)
+}
+
+// The entry with a lent record buffer, in which the structs have room.
+fn parse_in(
+    tokens: &[Token],
+    records: &mut [u8],
+    base: u32,
+    events: &mut [u32],
+    errors: &mut [u32],
+) -> Answer
+    requires { ⌜ 6 * length (now tokens) ≤ length (now records) ⌝ }
+    ensures { λ r. ⌜ Answers documentEntry (recordsOf (now (tokens .entry))) base (now (events .entry)) (now (errors .entry)) (now (events .exit)) (now (errors .exit)) r ⌝ }
+{
+    copy(tokens, records);
+    parse_records(records, tokens.len(), base, events, errors)
+}
+
+// The entry: any list may be given. One that is too long is refused before anything is copied.
+pub fn parse_tokens(tokens: &[Token], base: u32, events: &mut [u32], errors: &mut [u32]) -> Answer
+    ensures { λ r. ⌜ Answers documentEntry (recordsOf (now (tokens .entry))) base (now (events .entry)) (now (errors .entry)) (now (events .exit)) (now (errors .exit)) r ⌝ }
+{
+    if MAX_RECORDS < tokens.len() {
+        return Answer {
+            refusal: 2,
+            place: MAX_RECORDS,
+            events: 0,
+            errors: 0,
+        };
+    }
+    let mut records = [0; RECORD_BYTES];
+    parse_in(tokens, &mut records, base, events, errors)
+}

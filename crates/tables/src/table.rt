@@ -1,0 +1,163 @@
+// Tables and array tables.
+use endings::line_end::ws_comment_newline;
+use keys::keys::key;
+use keys::keys::opt_whitespace;
+use lines::skipping::ignore_to_newline;
+use output::emitting::Counts;
+use output::emitting::Walk;
+use output::emitting::emit;
+use output::emitting::report;
+use output::expected::CLOSE_SQUARE;
+use output::expected::CLOSE_SQUARES;
+use output::message::INVALID_TABLE;
+use output::message::UNCLOSED_ARRAY_TABLE;
+use output::message::UNCLOSED_TABLE;
+use rules::event::Event;
+use token::cursor::Cursor;
+use token::cursor::Sought;
+use token::cursor::Step;
+use token::cursor::Token;
+use token::kind::Kind;
+use token::span::Span;
+ghost use Rattle.token.specs.Tokens.{Good, tokensAt};
+ghost use Rattle.rules.specs.Table.{onTable, header, closed, unclosed};
+ghost use Rattle.output.specs.Pour.{bufs};
+ghost use Rattle.output.specs.Walks.{Goes};
+
+// No close at all: it is reported if the key was valid, and the line is skipped.
+fn unclosed_table(
+    s: &[u8],
+    head: Token,
+    c: Cursor,
+    m: Counts,
+    array: bool,
+    valid: bool,
+    events: &mut [u32],
+    errors: &mut [u32],
+) -> Walk
+    requires { ⌜ Good (now s) c ⌝ }
+    ensures { λ r. ⌜ Goes (now (s .entry)) (unclosed array valid (head .start) (head .end) (tokensAt (now (s .entry)) c)) c (bufs (now (events .entry)) (now (errors .entry)) m) (now (events .exit)) (now (errors .exit)) r ⌝ }
+{
+    if valid {
+        let last = c.nearest_before(
+            s,
+            Sought::Solid,
+            Span {
+                start: head.start,
+                end: head.end,
+            },
+        );
+        if array {
+            let n = report(
+                errors,
+                m,
+                UNCLOSED_ARRAY_TABLE,
+                CLOSE_SQUARES,
+                head.start,
+                last.end,
+                last.end,
+                last.end,
+            );
+            return ignore_to_newline(s, c, n, events, errors);
+        }
+        let n = report(
+            errors,
+            m,
+            UNCLOSED_TABLE,
+            CLOSE_SQUARE,
+            head.start,
+            last.end,
+            last.end,
+            last.end,
+        );
+        return ignore_to_newline(s, c, n, events, errors);
+    }
+    ignore_to_newline(s, c, m, events, errors)
+}
+
+// The first `]`, and for an array table the second one directly behind it; then the end of the line.
+fn close_table(
+    s: &[u8],
+    head: Token,
+    close: Token,
+    c: Cursor,
+    m: Counts,
+    array: bool,
+    events: &mut [u32],
+    errors: &mut [u32],
+) -> Walk
+    requires { ⌜ Good (now s) c ⌝ }
+    ensures { λ r. ⌜ Goes (now (s .entry)) (closed array (head .start) (close .start) (close .end) (tokensAt (now (s .entry)) c)) c (bufs (now (events .entry)) (now (errors .entry)) m) (now (events .exit)) (now (errors .exit)) r ⌝ }
+{
+    if array {
+        let step = c.next_token_if(s, Kind::RightSquareBracket);
+        let Step::Got(second, past) = step else {
+            let n = report(
+                errors,
+                m,
+                UNCLOSED_ARRAY_TABLE,
+                CLOSE_SQUARE,
+                head.start,
+                close.end,
+                close.end,
+                close.end,
+            );
+            return ignore_to_newline(s, c, n, events, errors);
+        };
+        let n = emit(events, m, Event::ArrayTableClose, close.start, second.end);
+        return ws_comment_newline(s, past, n, events, errors);
+    }
+    let n = emit(events, m, Event::StdTableClose, close.start, close.end);
+    ws_comment_newline(s, c, n, events, errors)
+}
+
+// After the opening, of which the first bracket is `head`: the key, and the close.
+fn table_header(
+    s: &[u8],
+    head: Token,
+    c: Cursor,
+    m: Counts,
+    array: bool,
+    events: &mut [u32],
+    errors: &mut [u32],
+) -> Walk
+    requires { ⌜ Good (now s) c ⌝ }
+    ensures { λ r. ⌜ Goes (now (s .entry)) (header array (head .start) (head .end) (tokensAt (now (s .entry)) c)) c (bufs (now (events .entry)) (now (errors .entry)) m) (now (events .exit)) (now (errors .exit)) r ⌝ }
+{
+    let v = opt_whitespace(s, c, m, events, errors);
+    let from = v.cur;
+    let i = v.n;
+    let k = key(s, from, i, INVALID_TABLE, events, errors);
+    let behind = k.cur;
+    let j = k.n;
+    let w = opt_whitespace(s, behind, j, events, errors);
+    let cur = w.cur;
+    let n = w.n;
+    let step = cur.next_token_if(s, Kind::RightSquareBracket);
+    let Step::Got(close, past) = step else {
+        let valid = k.valid;
+        return unclosed_table(s, head, cur, n, array, valid, events, errors);
+    };
+    close_table(s, head, close, past, n, array, events, errors)
+}
+
+// The table that `head` begins; a `[` directly behind it makes an array table.
+pub fn on_table(
+    s: &[u8],
+    head: Token,
+    c: Cursor,
+    m: Counts,
+    events: &mut [u32],
+    errors: &mut [u32],
+) -> Walk
+    requires { ⌜ Good (now s) c ⌝ }
+    ensures { λ r. ⌜ Goes (now (s .entry)) (onTable (head .start) (head .end) (tokensAt (now (s .entry)) c)) c (bufs (now (events .entry)) (now (errors .entry)) m) (now (events .exit)) (now (errors .exit)) r ⌝ }
+{
+    let step = c.next_token_if(s, Kind::LeftSquareBracket);
+    let Step::Got(second, past) = step else {
+        let n = emit(events, m, Event::StdTableOpen, head.start, head.end);
+        return table_header(s, head, c, n, false, events, errors);
+    };
+    let n = emit(events, m, Event::ArrayTableOpen, head.start, second.end);
+    table_header(s, head, past, n, true, events, errors)
+}

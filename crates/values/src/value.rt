@@ -1,0 +1,89 @@
+// Values.
+use keys::keys::nothing_left;
+use nest::nest::NestWalk;
+use nest::nest::on_array_open;
+use nest::nest::on_inline_table_open;
+use nest::nest::unstopped;
+use output::emitting::Counts;
+use output::emitting::Walk;
+use output::emitting::emit;
+use output::emitting::report_at;
+use output::emitting::report_before;
+use output::expected::A_VALUE;
+use output::expected::NOTHING;
+use output::expected::OPEN_CURLY;
+use output::expected::OPEN_SQUARE;
+use output::message::EXTRA_EQUALS;
+use output::message::MISSING_ARRAY_OPENING;
+use output::message::MISSING_INLINE_TABLE_OPENING;
+use output::message::MISSING_VALUE;
+use rules::event::Encoding;
+use rules::event::Event;
+use rules::value::InValue;
+use rules::value::in_value;
+use scalars::scalar::on_scalar;
+use token::cursor::Cursor;
+use token::cursor::Step;
+ghost use Rattle.token.specs.Tokens.{Good, tokensAt};
+ghost use Rattle.rules.specs.Value.{value};
+ghost use Rattle.output.specs.Pour.{bufs};
+ghost use Rattle.nest.specs.Nested.{Nested};
+
+// In the Rust value calls itself at an `=`; a list of them would take a frame each, so here it is a loop.
+pub fn value(
+    s: &[u8],
+    c: Cursor,
+    m: Counts,
+    levels: u32,
+    events: &mut [u32],
+    errors: &mut [u32],
+) -> NestWalk
+    requires { ⌜ Good (now s) c ⌝ }
+    ensures { λ r. ⌜ Nested (now (s .entry)) (value levels (tokensAt (now (s .entry)) c)) c (bufs (now (events .entry)) (now (errors .entry)) m) (now (events .exit)) (now (errors .exit)) r ⌝ }
+{
+    let mut cur = c;
+    let mut n = m;
+    loop {
+        let step = cur.next(s);
+        let Step::Got(t, past) = step else {
+            n = nothing_left(s, cur, n, MISSING_VALUE, A_VALUE, errors);
+            return unstopped(Walk { cur, n });
+        };
+        let k = t.kind;
+        let x = in_value(k);
+        match x {
+            InValue::Nothing => {
+                n = emit(events, n, Event::Scalar(Encoding::None), t.start, t.start);
+                let back = past.back(s);
+                return unstopped(Walk { cur: back, n });
+            }
+            InValue::Equals => {
+                n = report_at(errors, n, EXTRA_EQUALS, NOTHING, t, t);
+                n = emit(events, n, Event::Error, t.start, t.end);
+                cur = past;
+            }
+            InValue::OpenCurly => {
+                return on_inline_table_open(s, t, past, n, levels, events, errors);
+            }
+            InValue::CloseCurly => {
+                n = report_before(errors, n, MISSING_INLINE_TABLE_OPENING, OPEN_CURLY, t, t);
+                n = emit(events, n, Event::InlineTableOpen, t.start, t.start);
+                n = emit(events, n, Event::InlineTableClose, t.start, t.end);
+                return unstopped(Walk { cur: past, n });
+            }
+            InValue::OpenSquare => {
+                return on_array_open(s, t, past, n, levels, events, errors);
+            }
+            InValue::CloseSquare => {
+                n = report_before(errors, n, MISSING_ARRAY_OPENING, OPEN_SQUARE, t, t);
+                n = emit(events, n, Event::ArrayOpen, t.start, t.start);
+                n = emit(events, n, Event::ArrayClose, t.start, t.end);
+                return unstopped(Walk { cur: past, n });
+            }
+            InValue::Scalar => {
+                let w = on_scalar(s, t, past, n, events, errors);
+                return unstopped(w);
+            }
+        }
+    }
+}

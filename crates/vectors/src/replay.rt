@@ -1,0 +1,77 @@
+// Replaying a case: its list is read and parsed, and what comes is held to what the file says.
+use crate::comparing::Compared;
+use crate::comparing::UNTOUCHED;
+use crate::comparing::both_of;
+use crate::comparing::next_words_are;
+use crate::comparing::same_answer;
+use crate::frames::Case;
+use crate::frames::first_filled;
+use crate::frames::whole_words;
+use grammar::entries::parse_document;
+use grammar::entries::parse_key;
+use grammar::entries::parse_simple_key;
+use grammar::entries::parse_value;
+use rules::answer::Answer;
+
+// The entries are numbered as ENTRIES of oracle/src/walk.rs has them.
+fn parse(entry: u32, s: &[u8], base: u32, events: &mut [u32], errors: &mut [u32]) -> Answer {
+    match entry {
+        0 => parse_document(s, base, events, errors),
+        1 => parse_key(s, base, events, errors),
+        2 => parse_simple_key(s, base, events, errors),
+        _ => parse_value(s, base, events, errors),
+    }
+}
+
+// What came of a list; or the case is wrong, since there is no such entry, or the list or a buffer would be too long.
+enum Ran {
+    Answered(Answer),
+    Wrong,
+}
+
+// The list is the first part of s, and the buffers are those of events and errors.
+fn run(c: Case, s: &[u8], events: &mut [u32], errors: &mut [u32]) -> Ran {
+    let size = c.bytes as usize;
+    let event_room = c.event_room as usize;
+    let error_room = c.error_room as usize;
+    if c.entry > 3 {
+        return Ran::Wrong;
+    }
+    if size > s.len() {
+        return Ran::Wrong;
+    }
+    if event_room > events.len() {
+        return Ran::Wrong;
+    }
+    if error_room > errors.len() {
+        return Ran::Wrong;
+    }
+    Ran::Answered(parse(
+        c.entry,
+        &s[0..size],
+        c.base,
+        &mut events[0..event_room],
+        &mut errors[0..error_room],
+    ))
+}
+
+// All that the buffers hold is compared, also what lies beyond the room.
+fn compare(fd: i32, c: Case, s: &[u8]) -> Compared {
+    let mut events = [UNTOUCHED; 4096];
+    let mut errors = [UNTOUCHED; 3072];
+    let Ran::Answered(a) = run(c, s, &mut events, &mut errors) else {
+        return Compared::Broken;
+    };
+    let event_words = next_words_are(fd, &events, c.event_words);
+    let error_words = next_words_are(fd, &errors, c.error_words);
+    both_of(same_answer(a, c), both_of(event_words, error_words))
+}
+
+// Reads the list of the case, and compares what comes of it.
+pub fn replay(fd: i32, c: Case) -> Compared {
+    let mut list = [0u8; 4096];
+    if !first_filled(fd, &mut list, whole_words(c.bytes)) {
+        return Compared::Broken;
+    }
+    compare(fd, c, &list)
+}

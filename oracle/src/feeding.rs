@@ -1,0 +1,140 @@
+//! Writing cases with the oracle's answers as frames: what the feeder of ./differ and
+//! the maker of the replay program's file share. src/frame.rs says what a frame is.
+
+use std::io::Write;
+
+use crate::batch::Case;
+use crate::frame;
+use crate::judged_compared;
+use crate::Judged;
+
+/// Bytes that are gathered before they are written.
+const GATHERED: usize = 800_000;
+
+/// What is to be written, and how many cases there were.
+pub struct Feed<W> {
+    to: W,
+    out: Vec<u8>,
+    cases: u64,
+    wrong: bool,
+}
+
+impl<W: Write> Feed<W> {
+    /// Frames for `to`. If `wrong`, something else is asked for at each report 13
+    /// than the oracle gives.
+    pub fn new(to: W, wrong: bool) -> Self {
+        Self {
+            to,
+            out: Vec::new(),
+            cases: 0,
+            wrong,
+        }
+    }
+
+    /// How many cases there were.
+    pub fn cases(&self) -> u64 {
+        self.cases
+    }
+
+    /// Adds a case with the room that it has.
+    pub fn put(&mut self, case: Case) -> Result<(), String> {
+        let room = (case.event_words, case.error_words);
+        self.put_in_rooms(case, |_, _| [room])
+    }
+
+    /// Adds the case once in each of these rooms, which are chosen by the words that
+    /// its events and errors need.
+    pub fn put_in_rooms<R>(
+        &mut self,
+        mut case: Case,
+        rooms: impl FnOnce(usize, usize) -> R,
+    ) -> Result<(), String>
+    where
+        R: IntoIterator<Item = (usize, usize)>,
+    {
+        let judged = judged_compared(case.entry, case.base, &case.bytes)?;
+        let (events, errors) = judged.counts();
+        for (event_words, error_words) in rooms(4 * events, 6 * errors) {
+            case.event_words = event_words;
+            case.error_words = error_words;
+            self.put_judged(&case, &judged)?;
+        }
+        Ok(())
+    }
+
+    fn put_judged(&mut self, case: &Case, judged: &Judged) -> Result<(), String> {
+        let mut events = vec![0; case.event_words];
+        let mut errors = vec![0; case.error_words];
+        let answer = judged.answer(&mut events, &mut errors);
+        if self.wrong {
+            let errors = errors.chunks_exact_mut(6);
+            errors
+                .filter(|error| error[0] == 13)
+                .for_each(|error| error[1] += 1);
+        }
+        frame::push_case(&mut self.out, case, &answer, &events, &errors);
+        self.cases += 1;
+        if self.out.len() >= GATHERED {
+            self.write()?;
+        }
+        Ok(())
+    }
+
+    /// Adds a note.
+    pub fn note(&mut self, text: &str) {
+        frame::push_note(&mut self.out, text);
+    }
+
+    /// Adds the end.
+    pub fn end(&mut self) -> Result<(), String> {
+        frame::push_end(&mut self.out, self.cases);
+        self.write()
+    }
+
+    /// Writes what was gathered. If nobody reads any more, a difference was found,
+    /// and there is nothing left to do.
+    fn write(&mut self) -> Result<(), String> {
+        match self.to.write_all(&self.out) {
+            Err(error) if error.kind() == std::io::ErrorKind::BrokenPipe => std::process::exit(0),
+            done => done.map_err(|e| e.to_string())?,
+        }
+        self.out.clear();
+        Ok(())
+    }
+}
+
+/// Words of room where so many are needed: none, one short, exact, or some to spare.
+pub fn room(which: usize, needed: usize, spare: usize) -> usize {
+    match which {
+        0 => 0,
+        1 => needed.saturating_sub(1),
+        2 => needed,
+        _ => needed + spare,
+    }
+}
+
+/// Rooms for events and errors with words to spare, and then others that go by `turn`.
+pub fn ample_and_another(turn: u64, events: usize, errors: usize) -> [(usize, usize); 2] {
+    let (first, second) = ((turn % 4) as usize, (turn / 4 % 4) as usize);
+    [(3, 3), (first, second)]
+        .map(|(first, second)| (room(first, events, 5), room(second, errors, 7)))
+}
+
+/// The length if the kind may have it, else the one that it must have.
+pub fn right_length(kind: u16, length: u32) -> u32 {
+    match kind {
+        1..=7 => 1,
+        16 => 0,
+        _ => length,
+    }
+}
+
+/// The list number `list` among the 16 to the power of `length` lists of so many
+/// tokens. Lengths differ by place.
+pub fn short_list(length: u32, list: u64) -> Vec<(u16, u32)> {
+    let pair = |place: u32| {
+        let kind = 1 + (list >> (4 * place) & 15) as u16;
+        (kind, right_length(kind, 1 + place % 3))
+    };
+    (0..length).map(pair).collect()
+}

@@ -1,0 +1,60 @@
+//! The library, by its C function for documents.
+
+use crate::Buffers;
+use crate::Counts;
+
+#[repr(C)]
+struct Answer {
+    refusal: u32,
+    place: usize,
+    events: usize,
+    errors: usize,
+}
+
+extern "C" {
+    fn deckmarten_parse_document(
+        records: *const u8,
+        bytes: usize,
+        base: u32,
+        events: *mut u32,
+        event_words: usize,
+        errors: *mut u32,
+        error_words: usize,
+    ) -> Answer;
+}
+
+/// One walk: the check of the records, and the document. What callgrind counts in this function is the library's side.
+#[inline(never)]
+pub fn walk(bytes: &[u8], buffers: &mut Buffers) -> Counts {
+    let answer = document(bytes, buffers);
+    assert_eq!(answer.refusal, 0, "refused at {}", answer.place);
+    Counts {
+        events: answer.events,
+        errors: answer.errors,
+    }
+}
+
+/// The check of the records, and of the document only the beginning, where the walk stops: nearly all that callgrind counts in
+/// this function is the check.
+#[inline(never)]
+pub fn check(stopped_at_once: &[u8], buffers: &mut Buffers) {
+    let answer = document(stopped_at_once, buffers);
+    assert_eq!(answer.refusal, 6, "not stopped");
+}
+
+#[inline(always)]
+fn document(bytes: &[u8], buffers: &mut Buffers) -> Answer {
+    let Buffers { events, errors } = buffers;
+    // SAFETY: each pointer has its length, and the three do not overlap: all that include/deckmarten.h asks for.
+    unsafe {
+        deckmarten_parse_document(
+            bytes.as_ptr(),
+            bytes.len(),
+            0,
+            events.as_mut_ptr(),
+            events.len(),
+            errors.as_mut_ptr(),
+            errors.len(),
+        )
+    }
+}
