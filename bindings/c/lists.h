@@ -15,6 +15,7 @@ struct list {
 
 #define FOUR(text) text text text text
 #define THIRTY_TWO(text) FOUR(text text text text text text text text)
+#define SIXTY_FOUR(text) THIRTY_TWO(text text)
 #define NESTED_OPEN THIRTY_TWO("[{a=")
 #define NESTED_CLOSE THIRTY_TWO("}]")
 
@@ -51,6 +52,10 @@ static const struct list lists[] = {
      {{0, 0, 65537, 2}, {0, 0, 65536, 1}, {0, 0, 65536, 1}, {0, 0, 65536, 1}}},
     {"arrays opened", "a=", "[", "",
      {{6, 66, 66, 0}, {0, 0, 65536, 1}, {0, 0, 65536, 1}, {0, 0, 65536, 1}}},
+    {"deepest arrays", "a=" SIXTY_FOUR("["), "", "a" SIXTY_FOUR("]") "$",
+     {{0, 0, 131, 0}, {0, 0, 131, 1}, {0, 0, 131, 1}, {0, 0, 131, 1}}},
+    {"deepest inline tables", "a=" SIXTY_FOUR("{a="), "", "a" SIXTY_FOUR("}") "$",
+     {{0, 0, 259, 0}, {0, 0, 259, 1}, {0, 0, 259, 1}, {0, 0, 259, 1}}},
     {"deepest", "a=" NESTED_OPEN, "", "a" NESTED_CLOSE "$",
      {{0, 0, 195, 0}, {0, 0, 195, 1}, {0, 0, 195, 1}, {0, 0, 195, 1}}},
     {"deepest, filled up", "a=" NESTED_OPEN "a", ".a", NESTED_CLOSE "$",

@@ -1,7 +1,7 @@
 -- Turns in arrays, a token at a time. Assumes nothing.
 use mathlib.Core.Path.{_≡_, refl, ap, sym, subst, _∙_}
 use mathlib.Core.List.{List}
-use Prim.Native.Nat.{ℕ, _-_}
+use Prim.Native.Nat.{ℕ}
 use Rattle.token.specs.Tokens.{Tok, tokensAt, Took}
 use Rattle.token.specs.declared.kind.Kind.{Kind}
 use Rattle.token.specs.declared.kind.Kind.the-variants.{Dot, Equals, Comma, LeftSquareBracket, RightSquareBracket, LeftCurlyBracket, RightCurlyBracket, Whitespace, Comment, Newline, LiteralString, BasicString, MlLiteralString, MlBasicString, Atom, Eof}
@@ -18,7 +18,7 @@ use Rattle.output.specs.Walks.{run}
 use Rattle.output.specs.WalkLaws.{at-token}
 use Rattle.scalars.specs.ScalarWalks.{Starts}
 use Rattle.arrays.specs.declared.array.ArrayTurn.{ArrayTurn}
-use Rattle.arrays.specs.Turning.{Turned, commaItems}
+use Rattle.arrays.specs.Turning.{Turned, Wants, commaItems}
 
 -- arrays: the token that was read, by what its kind is to an array
 module _ (s : List ℕ) (c d : Cursor) (t : Token) (k : Took s c t d) (x y : InArray) (p : x ≡ inArray (t .kind)) (q : x ≡ y) (all : List Tok) (o : Bufs) (head : Place) (nest : Nest) (loop : ArrayState → List Tok → Out) where
@@ -73,5 +73,5 @@ array-starts k x p q = subst (λ (z : InArray). ScalarStarts z (startingOf k)) (
 
 -- an answer that is made by a function
 module _ {s : List ℕ} {c : Cursor} {o : Bufs} {a b : List ℕ} where
-  pub array-as : {rule : Nest → (ArrayState → List Tok → Out) → Out} {r r' : ArrayTurn} → r ≡ r' → Turned ArrayState s rule c o a b (r' .cur) (r' .n) (r' .state) (r' .next) → Turned ArrayState s rule c o a b (r .cur) (r .n) (r .state) (r .next)
-  array-as {rule} e x = subst (λ (z : ArrayTurn). Turned ArrayState s rule c o a b (z .cur) (z .n) (z .state) (z .next)) (sym e) x
+  pub array-as : {rule : Nest → (ArrayState → List Tok → Out) → Out} {r r' : ArrayTurn} → r ≡ r' → Turned ArrayState s rule c o a b (r' .cur) (r' .n) (r' .state) (r' .next) → Wants (r' .next) (r' .state) → Turned ArrayState s rule c o a b (r .cur) (r .n) (r .state) (r .next) × Wants (r .next) (r .state)
+  array-as {rule} e x y = subst (λ (z : ArrayTurn). Turned ArrayState s rule c o a b (z .cur) (z .n) (z .state) (z .next) × Wants (z .next) (z .state)) (sym e) (x, y)

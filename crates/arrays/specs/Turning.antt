@@ -40,6 +40,13 @@ Further Next.Again c d = c .at + 1 ≤ d .at
 Further (Next.OpenArray t) c d = c .at + 1 ≤ d .at
 Further (Next.OpenTable t) c d = c .at + 1 ≤ d .at
 
+-- behind what a turn of an array opens, a comma is wanted
+abbrev pub Wants : Next → ArrayState → Type 0
+Wants Next.Over st = Unit {0}
+Wants Next.Again st = Unit {0}
+Wants (Next.OpenArray t) st = st ≡ ArrayState.NeedsComma
+Wants (Next.OpenTable t) st = st ≡ ArrayState.NeedsComma
+
 -- a turn by the rule from cursor c and buffers o: it left the cursor d, the buffers a and b, the counts n and the state w, and says what is next
 pub record Turned (S : Type 0) (s : List ℕ) (rule : Nest → (S → List Tok → Out) → Out) (c : Cursor) (o : Bufs) (a b : List ℕ) (d : Cursor) (n : Counts) (w : S) (x : Next) : Type 0 where
   pub is : (base : ℕ) → c .base ≡ base → (nest : Nest) (loop : S → List Tok → Out) → run (allTokens s base) (rule nest loop) o ≡ run (allTokens s base) (goOn x nest loop w (tokensAt s d)) (bufs a b n)

@@ -31,7 +31,7 @@ ghost use Rattle.token.specs.Tokens.{Tok, Good, tokensAt};
 ghost use Rattle.rules.specs.Out.{span};
 ghost use Rattle.rules.specs.Array.{missingComma, arrayTurn};
 ghost use Rattle.output.specs.Pour.{bufs, pour};
-ghost use Rattle.arrays.specs.Turning.{Turned, commaItems};
+ghost use Rattle.arrays.specs.Turning.{Turned, Wants, commaItems};
 
 pub struct ArrayTurn {
     pub cur: Cursor,
@@ -133,7 +133,7 @@ pub fn array_turn(
     errors: &mut [u32],
 ) -> ArrayTurn
     requires { ⌜ Good (now s) c ⌝ }
-    ensures { λ r. ⌜ Turned ArrayState (now (s .entry)) (λ nest loop. arrayTurn (span (head .start) (head .end)) nest loop state (tokensAt (now (s .entry)) c)) c (bufs (now (events .entry)) (now (errors .entry)) m) (now (events .exit)) (now (errors .exit)) (r .cur) (r .n) (r .state) (r .next) ⌝ }
+    ensures { λ r. ⌜ Turned ArrayState (now (s .entry)) (λ nest loop. arrayTurn (span (head .start) (head .end)) nest loop state (tokensAt (now (s .entry)) c)) c (bufs (now (events .entry)) (now (errors .entry)) m) (now (events .exit)) (now (errors .exit)) (r .cur) (r .n) (r .state) (r .next) × Wants (r .next) (r .state) ⌝ }
 {
     let step = c.next(s);
     let Step::Got(t, past) = step else {

@@ -8,7 +8,7 @@ use token::cursor::Sought;
 use token::cursor::Token;
 use token::span::Span;
 ghost use mathlib.Core.Path.{_≡_};
-ghost use mathlib.Core.List.{List, []};
+ghost use mathlib.Core.List.{[]};
 ghost use Prim.Native.Nat.{ℕ};
 ghost use Rattle.token.specs.Tokens.{Good, tokensAt, allTokens};
 ghost use Rattle.rules.specs.Out.{span};

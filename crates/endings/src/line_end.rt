@@ -13,6 +13,7 @@ use rules::skipping::in_line;
 use token::cursor::Cursor;
 use token::cursor::Seen;
 use token::cursor::Step;
+use token::kind::Kind;
 ghost use Rattle.token.specs.Tokens.{Good, tokensAt};
 ghost use Rattle.rules.specs.Skipping.{ending, wsCommentNewline};
 ghost use Rattle.output.specs.Pour.{bufs};
@@ -34,6 +35,29 @@ pub fn ws_comment_newline(
         return Walk { cur: c, n: m };
     };
     line_ending(s, c, m, first.start, events, errors)
+}
+
+// The end of a line as ws_comment_newline reads it, the usual case first: a newline at once. It has one call site, so that it is
+// compiled into its caller. Copies are handed on, so that the caller's cursor and counts stay in registers.
+pub fn usual_line_end(
+    s: &[u8],
+    c: Cursor,
+    m: Counts,
+    events: &mut [u32],
+    errors: &mut [u32],
+) -> Walk
+    requires { ⌜ Good (now s) c ⌝ }
+    ensures { λ r. ⌜ Goes (now (s .entry)) (wsCommentNewline (tokensAt (now (s .entry)) c)) c (bufs (now (events .entry)) (now (errors .entry)) m) (now (events .exit)) (now (errors .exit)) r ⌝ }
+{
+    let step = c.next_token_if(s, Kind::Newline);
+    let Step::Got(t, past) = step else {
+        let list = s;
+        let from = c;
+        let sofar = m;
+        return ws_comment_newline(list, from, sofar, events, errors);
+    };
+    let n = emit(events, m, Event::Newline, t.start, t.end);
+    Walk { cur: past, n }
 }
 
 // The end of a line, of which the first token began at `first`.

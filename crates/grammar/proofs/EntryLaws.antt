@@ -1,5 +1,5 @@
 -- From the walk of an entry to its answer. Assumes nothing.
-use mathlib.Core.Path.{_≡_, refl, ap, sym, subst, _∙_}
+use mathlib.Core.Path.{_≡_, ap, sym, _∙_}
 use mathlib.Core.Bool.{Bool, true, false}
 use mathlib.Core.List.{List}
 use Prim.Native.Nat.{ℕ, suc, _-_, _/_}
@@ -15,8 +15,8 @@ use Rattle.token.specs.declared.cursor.Cursor.{Cursor}
 use Rattle.rules.specs.declared.answer.Answer.{Answer}
 use Rattle.rules.specs.Out.{Out}
 use Rattle.rules.specs.Entries.{Entry, parse}
-use Rattle.rules.specs.Answer.{Outcome, outcome}
-use Rattle.output.specs.Pour.{Bufs, bufs, pour}
+use Rattle.rules.specs.Answer.{outcome}
+use Rattle.output.specs.Pour.{bufs, pour}
 use Rattle.grammar.proofs.AnswerLaws.{fresh, outcome-ended, outcome-stopped}
 use Rattle.nest.specs.declared.nest.NestWalk.{NestWalk}
 use Rattle.nest.specs.Nested.{outOf, Nested}

@@ -1,4 +1,3 @@
 pub mod PourLaws
 pub mod AnswerLaws
-pub mod DocumentLaws
 pub mod EntryLaws

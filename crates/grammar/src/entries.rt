@@ -1,15 +1,15 @@
 // The four entries: record bytes, a base and two lent buffers in; the answer out, and the buffers filled.
-use crate::document::document;
+use checks::check::check;
+use documents::document::document;
 use endings::eof::eof;
-use keys::keys::key;
-use keys::keys::simple_key;
+use names::names::key;
+use names::names::simple_key;
 use nest::nest::NestWalk;
 use nest::nest::unstopped;
 use output::emitting::Counts;
 use output::message::INVALID_KEY;
 use rules::answer::Answer;
 use token::check::Checked;
-use token::check::check;
 use token::cursor::Cursor;
 use values::value::value;
 ghost use mathlib.Core.Path.{_≡_};

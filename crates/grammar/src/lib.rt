@@ -1,4 +1,3 @@
-// The document, and the four entries. This is what programs cite.
-pub mod document;
+// The four entries. This is what programs cite.
 pub mod entries;
 pub mod theorems;

@@ -6,7 +6,7 @@ use crate::table_turn::over;
 use crate::table_turn::read;
 use arrays::turn::Next;
 use arrays::turn::unclosed;
-use lines::skipping::ignore_to_value_close;
+use brackets::brackets::ignore_to_value_close;
 use lines::skipping::on_comment;
 use output::emitting::Counts;
 use output::emitting::Walk;
@@ -42,23 +42,26 @@ use scalars::scalar::on_scalar;
 use token::cursor::Cursor;
 use token::cursor::Step;
 use token::cursor::Token;
+ghost use mathlib.Core.Path.{_≡_};
 ghost use Rattle.token.specs.Tokens.{Good, tokensAt};
 ghost use Rattle.rules.specs.Out.{span};
 ghost use Rattle.rules.specs.InlineTable.{inlineTableTurn};
 ghost use Rattle.output.specs.Pour.{bufs};
 ghost use Rattle.arrays.specs.Turning.{Turned};
+ghost use Rattle.pairs.specs.Parts.{actionTable};
 
-// One turn in the inline table that `head` opened.
+// One turn in the inline table that `head` opened. The table of actions is lent, since the turns of a loop share one.
 pub fn inline_table_turn(
     s: &[u8],
     head: Token,
     c: Cursor,
     m: Counts,
     p: Progress,
+    actions: &[[u8; 16]; 4],
     events: &mut [u32],
     errors: &mut [u32],
 ) -> TableTurn
-    requires { ⌜ Good (now s) c ⌝ }
+    requires { ⌜ Good (now s) c × (now actions ≡ actionTable) ⌝ }
     ensures { λ r. ⌜ Turned Progress (now (s .entry)) (λ nest loop. inlineTableTurn (span (head .start) (head .end)) nest loop p (tokensAt (now (s .entry)) c)) c (bufs (now (events .entry)) (now (errors .entry)) m) (now (events .exit)) (now (errors .exit)) (r .cur) (r .n) (r .progress) (r .next) ⌝ }
 {
     let step = c.next(s);
@@ -77,7 +80,7 @@ pub fn inline_table_turn(
     };
     let k = t.kind;
     let state = p.state;
-    let action = action_at(state, k);
+    let action = action_at(actions, state, k);
     match action {
         Action::Whitespace => {
             let n = emit(events, m, Event::Whitespace, t.start, t.end);

@@ -1,6 +1,6 @@
 // The listing program: reads token records from standard input and prints what the document entry gives for them at base 0, an
 // event or an error a line. More than 3,072 bytes print `input too long`, a refusal prints `refused N place P`.
-mod names;
+mod naming;
 mod printing;
 
 use crate::printing::print_errors;

@@ -1,5 +1,5 @@
 // The lines of a listing, written to standard output.
-use crate::names::print_name;
+use crate::naming::print_name;
 ghost use Prim.Native.Nat.{_+_, _*_, _≤_};
 ghost use lib.ListN.{getD, length};
 ghost use Rattle.listing.specs.Named.{AllNamed, Named};

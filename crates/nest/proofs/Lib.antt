@@ -1,1 +1,3 @@
 pub mod NestLaws
+pub mod RunLaws
+pub mod StackLaws

@@ -1,17 +1,16 @@
 -- Arrays and inline tables that open one another: a loop of turns, for any rule of a turn. Assumes nothing.
 use mathlib.Core.Path.{_≡_, refl, ap, sym, subst, _∙_}
 use mathlib.Core.Bool.{true, false, false≢true}
-use mathlib.Core.List.{List, [], _∷_}
+use mathlib.Core.List.{List, []}
 use Prim.Native.Nat.{ℕ, zero, suc, _+_, _-_, _≤_}
 use native.Mathlib.Omega.{arith}
-use lib.ListN.{length}
 use Rattle.token.specs.Tokens.{Tok, allTokens, tokensAt, Good}
 use Rattle.token.specs.declared.cursor.Token.{Token}
 use Rattle.token.specs.declared.cursor.Cursor.{Cursor}
 use Rattle.rules.specs.declared.skipping.Bracket.{Bracket}
 use Rattle.rules.specs.declared.array.ArrayState.{ArrayState}
 use Rattle.rules.specs.declared.inline_table.State.{State}
-use Rattle.rules.specs.Out.{span, Item, Out, done, _▹_, _then_}
+use Rattle.rules.specs.Out.{span, Out, done, _▹_, _then_}
 use Rattle.rules.specs.Receiver as receiver
 use Rattle.rules.specs.Turns.{turns, looping}
 use Rattle.rules.specs.Array.{Nest, arrayTurn}
@@ -26,7 +25,7 @@ use Rattle.arrays.specs.declared.turn.Next.{Next}
 use Rattle.nest.specs.declared.nest.NestWalk.{NestWalk}
 use Rattle.arrays.specs.Turning.{goOn, Further, Turned}
 use Rattle.nest.specs.Nested.{outOf, Nested}
-use Rattle.nest.specs.NestedLaws.{out-on, nested-on, nested-stop}
+use Rattle.nest.specs.NestedLaws.{out-on, nested-stop}
 
 further : (x : Next) (c d : Cursor) → Further x c d → c .at ≤ d .at
 further Next.Again c d h = omega arith
@@ -44,7 +43,7 @@ module _ {S : Type 0} (nest : Nest) (turn : Nest → (S → List Tok → Out) �
   Rest = onward (turn nest) still w inv w'
 
   -- what is next gives what the loop gives from its start
-  turned : (y : Next) → x ≡ y → run All (goOn y nest (onward (turn nest) still w inv) w' (tokensAt s d)) (bufs a b n) ≡ run All start o₀
+  pub turned : (y : Next) → x ≡ y → run All (goOn y nest (onward (turn nest) still w inv) w' (tokensAt s d)) (bufs a b n) ≡ run All start o₀
   turned y e =
       ap (λ (z : Next). run All (goOn z nest (onward (turn nest) still w inv) w' (tokensAt s d)) (bufs a b n)) (sym e)
       ∙ (sym (t .is (cur₀ .base) (inv .base) nest (onward (turn nest) still w inv)) ∙ turn-same (turn nest) still w inv)

@@ -1,2 +1,3 @@
 pub mod Nested
 pub mod NestedLaws
+pub mod Ran

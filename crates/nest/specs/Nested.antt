@@ -4,7 +4,7 @@ use mathlib.Core.Path.{_≡_}
 use mathlib.Core.Bool.{Bool, true, false}
 use mathlib.Core.List.{List}
 use lib.ListN.{length}
-use Rattle.token.specs.Tokens.{Tok, allTokens, tokensAt, Good}
+use Rattle.token.specs.Tokens.{allTokens, tokensAt, Good}
 use Rattle.token.specs.declared.cursor.Cursor.{Cursor}
 use Rattle.rules.specs.Out.{Out}
 use Rattle.output.specs.declared.emitting.Counts.{Counts}

@@ -1,2 +1,3 @@
 // Arrays and inline tables that open one another: the one cycle.
 pub mod nest;
+pub mod turns;

@@ -1,24 +1,30 @@
 // Arrays and inline tables open one another; the levels still allowed fall at each opening.
 // What is handed to a function lies in memory from then on, so copies are handed on, and the loops' own cursor and counts stay in
 // registers.
-use arrays::array::array_turn;
+use crate::turns::array_turns;
 use arrays::turn::Next;
 use inline::inline_table::inline_table_turn;
 use output::emitting::Counts;
 use output::emitting::Walk;
 use output::emitting::emit;
+use pairs::actions::action_table;
 use rules::array::ArrayState;
 use rules::event::Event;
 use rules::inline_table::Progress;
 use rules::inline_table::State;
 use token::cursor::Cursor;
 use token::cursor::Token;
+use token::kind::Kind;
 ghost use mathlib.Core.Path.{_≡_};
 ghost use mathlib.Core.Bool.{false};
 ghost use Rattle.token.specs.Tokens.{Good, tokensAt};
 ghost use Rattle.rules.specs.Nest.{onArrayOpen, onInlineTableOpen};
 ghost use Rattle.output.specs.Pour.{bufs};
 ghost use Rattle.nest.specs.Nested.{Nested};
+
+// How many arrays that wait for one in them to end are kept in one walk; one more is walked by a call. So a level that is only `[`
+// costs no call, and the stack does not grow with it.
+const HELD: usize = 16;
 
 // Where a walk ended, and the counts there; `stopped` says that one more level was refused, just behind its bracket.
 pub struct NestWalk {
@@ -62,8 +68,13 @@ pub fn on_array_open(
     let mut n = emit(events, m, Event::ArrayOpen, head.start, head.end);
     let mut cur = c;
     let mut state = ArrayState::NeedsValue;
+    let mut left = levels - 1;
+    let mut inner = head;
+    let mut starts = [0u32; HELD];
+    let mut ends = [0u32; HELD];
+    let mut depth: usize = 0;
     loop {
-        let a = array_turn(s, head, cur, n, state, events, errors);
+        let a = array_turns(s, inner, cur, n, state, events, errors);
         cur = a.cur;
         n = a.n;
         state = a.state;
@@ -71,29 +82,56 @@ pub fn on_array_open(
         match x {
             Next::Again => {}
             Next::Over => {
-                return NestWalk {
-                    cur,
-                    n,
-                    stopped: false,
+                if depth == 0 {
+                    return NestWalk {
+                        cur,
+                        n,
+                        stopped: false,
+                    };
+                }
+                depth -= 1;
+                left += 1;
+                inner = Token {
+                    kind: Kind::LeftSquareBracket,
+                    start: starts[depth],
+                    end: ends[depth],
                 };
+                state = ArrayState::NeedsComma;
             }
             Next::OpenArray(t) => {
-                let list = s;
-                let from = cur;
-                let sofar = n;
-                let v = on_array_open(list, t, from, sofar, levels - 1, events, errors);
-                let stopped = v.stopped;
-                if stopped {
-                    return v;
+                if left == 0 {
+                    return NestWalk {
+                        cur,
+                        n,
+                        stopped: true,
+                    };
                 }
-                cur = v.cur;
-                n = v.n;
+                if depth < HELD {
+                    starts[depth] = inner.start;
+                    ends[depth] = inner.end;
+                    depth += 1;
+                    left -= 1;
+                    inner = t;
+                    n = emit(events, n, Event::ArrayOpen, t.start, t.end);
+                    state = ArrayState::NeedsValue;
+                } else {
+                    let list = s;
+                    let from = cur;
+                    let sofar = n;
+                    let v = on_array_open(list, t, from, sofar, left, events, errors);
+                    let stopped = v.stopped;
+                    if stopped {
+                        return v;
+                    }
+                    cur = v.cur;
+                    n = v.n;
+                }
             }
             Next::OpenTable(t) => {
                 let list = s;
                 let from = cur;
                 let sofar = n;
-                let v = on_inline_table_open(list, t, from, sofar, levels - 1, events, errors);
+                let v = on_inline_table_open(list, t, from, sofar, left, events, errors);
                 let stopped = v.stopped;
                 if stopped {
                     return v;
@@ -130,8 +168,9 @@ pub fn on_inline_table_open(
         state: State::NeedsKey,
         empty: true,
     };
+    let actions = action_table();
     loop {
-        let a = inline_table_turn(s, head, cur, n, p, events, errors);
+        let a = inline_table_turn(s, head, cur, n, p, &actions, events, errors);
         cur = a.cur;
         n = a.n;
         p = a.progress;

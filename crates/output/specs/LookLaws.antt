@@ -3,7 +3,6 @@
 use mathlib.Core.Path.{_≡_, refl, ap, sym, subst, _∙_}
 use mathlib.Core.List.{List, []}
 use Prim.Native.Nat.{ℕ, _-_}
-use native.Mathlib.Omega.{arith}
 use lib.ListN.{length, take}
 use Rattle.token.specs.Tokens.{Tok, allTokens, tokensAt, tokensBefore, Good}
 use Rattle.token.specs.Spans.{spanAfter}
@@ -13,7 +12,7 @@ use Rattle.token.specs.declared.span.Span.{Span}
 use Rattle.token.specs.declared.cursor.Cursor.{Cursor}
 use Rattle.token.specs.declared.cursor.Sought.{Sought}
 use Rattle.rules.specs.declared.event.Event.{Event}
-use Rattle.rules.specs.Out.{Look, Place, span, Item, event, eventAfter, report}
+use Rattle.rules.specs.Out.{Look, Place, event, eventAfter, report}
 use Rattle.rules.specs.Words.{Halt, ended, refusedLevel, lookedUp, spanOf}
 use Rattle.output.specs.Pour.{Bufs, put, putBy, withEvent, withError}
 

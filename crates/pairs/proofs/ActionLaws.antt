@@ -1,5 +1,5 @@
 -- The table of action numbers is the rule's table of actions: each row, number by number, in one computed test. Assumes nothing.
-use mathlib.Core.Path.{_≡_, refl, ap, sym, _∙_}
+use mathlib.Core.Path.{_≡_, refl, ap, _∙_}
 use mathlib.Core.List.{List, [], _∷_}
 use Prim.Native.Nat.{ℕ, zero, suc, _-_, _<_, _≤_}
 use native.Mathlib.Nat.{not-suc-le-zero, le-of-suc-le-suc}
@@ -13,12 +13,7 @@ use Rattle.rules.specs.declared.inline_table.State.{State}
 use Rattle.rules.specs.declared.inline_table.Action.{Action}
 use Rattle.rules.specs.declared.inline_table.Action.the-variants as A
 use Rattle.rules.specs.InlineTable.{actions, actionOf}
-use Rattle.pairs.specs.Parts.{rowOf}
-
--- the table of the code
-abbrev pub rows : List (List ℕ)
-rows =
-    (21 ∷ 6 ∷ 5 ∷ 9 ∷ 18 ∷ 10 ∷ 17 ∷ 0 ∷ 1 ∷ 2 ∷ 20 ∷ 20 ∷ 20 ∷ 20 ∷ 20 ∷ 3 ∷ []) ∷ (13 ∷ 7 ∷ 5 ∷ 11 ∷ 18 ∷ 12 ∷ 17 ∷ 0 ∷ 1 ∷ 2 ∷ 13 ∷ 13 ∷ 13 ∷ 13 ∷ 13 ∷ 3 ∷ []) ∷ (16 ∷ 8 ∷ 5 ∷ 14 ∷ 19 ∷ 15 ∷ 17 ∷ 0 ∷ 1 ∷ 2 ∷ 16 ∷ 16 ∷ 16 ∷ 16 ∷ 16 ∷ 3 ∷ []) ∷ (23 ∷ 8 ∷ 4 ∷ 9 ∷ 18 ∷ 10 ∷ 17 ∷ 0 ∷ 1 ∷ 2 ∷ 22 ∷ 22 ∷ 22 ∷ 22 ∷ 22 ∷ 3 ∷ []) ∷ []
+use Rattle.pairs.specs.Parts.{rowOf, actionTable}
 
 -- the action of a number
 unfoldable pub actionFrom : ℕ → Action
@@ -57,14 +52,15 @@ each-at (x ∷ xs) d zero h = refl
 each-at (x ∷ xs) d (suc i) h = each-at xs d i (le-of-suc-le-suc h)
 
 -- the test: the rows of the code are the rows of the rule
-row-right : (st : State) → each (getD rows (rowOf st) []) ≡ actions st
-unfolding actionFrom
+row-right : (st : State) → each (getD actionTable (rowOf st) []) ≡ actions st
+unfolding actionFrom actionTable
 row-right State.NeedsKey = refl
 row-right State.NeedsEquals = refl
 row-right State.NeedsValue = refl
 row-right State.NeedsComma = refl
 
-row-length : (st : State) → length (getD rows (rowOf st) []) ≡ 16
+row-length : (st : State) → length (getD actionTable (rowOf st) []) ≡ 16
+unfolding actionTable
 row-length State.NeedsKey = refl
 row-length State.NeedsEquals = refl
 row-length State.NeedsValue = refl
@@ -100,8 +96,8 @@ column-small : (k : Kind) → numberOf k - 1 < 16
 column-small k = omega (arith, kind-small k .0, kind-small k .1)
 
 -- the rule, at each state and kind
-pub table-right : (st : State) (k : Kind) → actionFrom (getD (getD rows (rowOf st) []) (numberOf k - 1) 0) ≡ actionOf st k
-table-right st k = each-at (getD rows (rowOf st) []) A.Eof (numberOf k - 1) (rw (row-length st) (column-small k)) ∙ ap (λ (l : List Action). getD l (numberOf k - 1) A.Eof) (row-right st)
+pub table-right : (st : State) (k : Kind) → actionFrom (getD (getD actionTable (rowOf st) []) (numberOf k - 1) 0) ≡ actionOf st k
+table-right st k = each-at (getD actionTable (rowOf st) []) A.Eof (numberOf k - 1) (rw (row-length st) (column-small k)) ∙ ap (λ (l : List Action). getD l (numberOf k - 1) A.Eof) (row-right st)
 
 abbrev pub NoKey : ℕ → Type 0
 NoKey n = (((((((((((((((((((((((Unit {0}) × (n ≡ 0 → ⊥)) × (n ≡ 1 → ⊥)) × (n ≡ 2 → ⊥)) × (n ≡ 3 → ⊥)) × (n ≡ 4 → ⊥)) × (n ≡ 5 → ⊥)) × (n ≡ 6 → ⊥)) × (n ≡ 7 → ⊥)) × (n ≡ 8 → ⊥)) × (n ≡ 9 → ⊥)) × (n ≡ 10 → ⊥)) × (n ≡ 11 → ⊥)) × (n ≡ 12 → ⊥)) × (n ≡ 13 → ⊥)) × (n ≡ 14 → ⊥)) × (n ≡ 15 → ⊥)) × (n ≡ 16 → ⊥)) × (n ≡ 17 → ⊥)) × (n ≡ 18 → ⊥)) × (n ≡ 19 → ⊥)) × (n ≡ 20 → ⊥)) × (n ≡ 21 → ⊥)) × (n ≡ 22 → ⊥)
@@ -133,6 +129,6 @@ rest-action (suc (suc (suc (suc (suc (suc (suc (suc (suc (suc (suc (suc (suc (su
 rest-action (suc (suc (suc (suc (suc (suc (suc (suc (suc (suc (suc (suc (suc (suc (suc (suc (suc (suc (suc (suc (suc (suc zero)))))))))))))))))))))) h = absurd (h .1 refl)
 rest-action (suc (suc (suc (suc (suc (suc (suc (suc (suc (suc (suc (suc (suc (suc (suc (suc (suc (suc (suc (suc (suc (suc (suc n))))))))))))))))))))))) h = refl
 
--- the same where the row and the column are the code's
-pub table-entry : (st : State) (k : Kind) (i j : ℕ) → i ≡ rowOf st → j ≡ numberOf k → actionFrom (getD (getD rows i []) (j - 1) 0) ≡ actionOf st k
-table-entry st k i j p q = ap (λ (x : ℕ). actionFrom (getD (getD rows x []) (j - 1) 0)) p ∙ ap (λ (x : ℕ). actionFrom (getD (getD rows (rowOf st) []) (x - 1) 0)) q ∙ table-right st k
+-- the same of a table that is this one, where the row and the column are the code's
+pub table-entry : (t : List (List ℕ)) → t ≡ actionTable → (st : State) (k : Kind) (i j : ℕ) → i ≡ rowOf st → j ≡ numberOf k → actionFrom (getD (getD t i []) (j - 1) 0) ≡ actionOf st k
+table-entry t h st k i j p q = ap (λ (x : List (List ℕ)). actionFrom (getD (getD x i []) (j - 1) 0)) h ∙ ap (λ (x : ℕ). actionFrom (getD (getD actionTable x []) (j - 1) 0)) p ∙ ap (λ (x : ℕ). actionFrom (getD (getD actionTable (rowOf st) []) (x - 1) 0)) q ∙ table-right st k

@@ -1,7 +1,7 @@
 -- The parts of a key in an inline table. Assumes nothing.
 use mathlib.Core.Path.{_≡_, ap, _∙_}
 use mathlib.Core.List.{List}
-use Prim.Native.Nat.{ℕ, _-_}
+use Prim.Native.Nat.{ℕ}
 use Rattle.token.specs.Tokens.{Tok}
 use Rattle.rules.specs.declared.event.Encoding.{Encoding}
 use Rattle.rules.specs.declared.event.Event.{Event}

@@ -28,3 +28,12 @@ rowOf State.NeedsKey = 0
 rowOf State.NeedsEquals = 1
 rowOf State.NeedsValue = 2
 rowOf State.NeedsComma = 3
+
+-- the table of the numbers of the actions, a row a state and a column a kind of token
+unfoldable pub actionTable : List (List ℕ)
+actionTable =
+    (21 ∷ 6 ∷ 5 ∷ 9 ∷ 18 ∷ 10 ∷ 17 ∷ 0 ∷ 1 ∷ 2 ∷ 20 ∷ 20 ∷ 20 ∷ 20 ∷ 20 ∷ 3 ∷ [])
+    ∷ (13 ∷ 7 ∷ 5 ∷ 11 ∷ 18 ∷ 12 ∷ 17 ∷ 0 ∷ 1 ∷ 2 ∷ 13 ∷ 13 ∷ 13 ∷ 13 ∷ 13 ∷ 3 ∷ [])
+    ∷ (16 ∷ 8 ∷ 5 ∷ 14 ∷ 19 ∷ 15 ∷ 17 ∷ 0 ∷ 1 ∷ 2 ∷ 16 ∷ 16 ∷ 16 ∷ 16 ∷ 16 ∷ 3 ∷ [])
+    ∷ (23 ∷ 8 ∷ 4 ∷ 9 ∷ 18 ∷ 10 ∷ 17 ∷ 0 ∷ 1 ∷ 2 ∷ 22 ∷ 22 ∷ 22 ∷ 22 ∷ 22 ∷ 3 ∷ [])
+    ∷ []

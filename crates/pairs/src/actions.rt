@@ -12,7 +12,7 @@ use token::kind::Kind;
 use token::kind::number_of;
 ghost use mathlib.Core.Path.{_≡_};
 ghost use Rattle.rules.specs.InlineTable.{actionOf, wanted, encodingAt};
-ghost use Rattle.pairs.specs.Parts.{rowOf};
+ghost use Rattle.pairs.specs.Parts.{rowOf, actionTable};
 
 // The number of the action of each state (row) at each kind of token (column).
 const ACTIONS: [[u8; 16]; 4] = [
@@ -21,6 +21,13 @@ const ACTIONS: [[u8; 16]; 4] = [
     [16, 8, 5, 14, 19, 15, 17, 0, 1, 2, 16, 16, 16, 16, 16, 3],
     [23, 8, 4, 9, 18, 10, 17, 0, 1, 2, 22, 22, 22, 22, 22, 3],
 ];
+
+// The table for the turns of an inline table: a constant array is built anew wherever it is named, so a walk asks for it once and lends it.
+pub fn action_table() -> [[u8; 16]; 4]
+    ensures { λ r. ⌜ r ≡ actionTable ⌝ }
+{
+    ACTIONS
+}
 
 fn row_of(state: State) -> usize
     ensures { λ r. ⌜ r ≡ rowOf state ⌝ }
@@ -57,13 +64,14 @@ pub fn encoding_at(kind: Kind) -> Encoding
     }
 }
 
-// The action of a state at a kind of token.
-pub fn action_at(state: State, kind: Kind) -> Action
+// The action of a state at a kind of token. The table is lent, since a constant is built anew wherever it is named.
+pub fn action_at(actions: &[[u8; 16]; 4], state: State, kind: Kind) -> Action
+    requires { ⌜ now actions ≡ actionTable ⌝ }
     ensures { λ r. ⌜ r ≡ actionOf state kind ⌝ }
 {
     let i = row_of(state);
     let j = number_of(kind) - 1;
-    let a = ACTIONS[i][j];
+    let a = actions[i][j];
     match a {
         0 => Action::Whitespace,
         1 => Action::Comment,

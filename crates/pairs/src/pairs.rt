@@ -1,7 +1,7 @@
 // What an inline table is made of: its keys, its last comma, and the reports of what it does not want.
 use crate::actions::encoding_at;
 use crate::actions::wanted_in;
-use keys::keys::opt_dot_keys;
+use dots::dots::opt_dot_keys;
 use output::emitting::Counts;
 use output::emitting::Walk;
 use output::emitting::emit;
@@ -26,7 +26,7 @@ ghost use Rattle.rules.specs.Keys.{optDotKeys};
 ghost use Rattle.rules.specs.InlineTable.{wanted, refused, trailing};
 ghost use Rattle.output.specs.Pour.{bufs, put, pour};
 ghost use Rattle.output.specs.Walks.{Goes};
-ghost use Rattle.keys.specs.KeyWalks.{ReadDot};
+ghost use Rattle.dots.specs.KeyWalks.{ReadDot};
 ghost use Rattle.pairs.specs.Parts.{blamed, keyItem, emptyKey};
 
 // The report of what the state wants, before t.

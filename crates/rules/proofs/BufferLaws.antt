@@ -6,7 +6,7 @@ use native.Mathlib.Omega.{arith}
 use native.Mathlib.Nat.{zero-mul, suc-mul, le-trans, le-of-eq, mul-le-mul-right, div-mul-le-self}
 use lib.ListN.{length, take, drop, getD, length-append, length-take, length-drop, List·getD-append}
 use lib.Seq.{take-all, take-at, drop-at, getD-append-add}
-use Rattle.rules.specs.Answer.{joined, written, filled}
+use Rattle.rules.specs.Answer.{joined, filled}
 
 -- entries of n words each
 pub data Sized (n : ℕ) : List (List ℕ) → Type 0 where

@@ -1,7 +1,7 @@
 -- The texts of specs/Texts.antt are read by the rules as they are written there: by computation.
 use Prim.Native.Nat.{ℕ}
 use mathlib.Core.Path.{_≡_, refl}
-use mathlib.Core.List.{List, [], _∷_}
+use mathlib.Core.List.{[], _∷_}
 use Rattle.token.specs.Kinds.{kindOf}
 use Rattle.token.specs.Records.{lengthAt, kindNumberAt}
 use Rattle.token.specs.Tokens.{tokensFrom, allTokens}

@@ -6,7 +6,7 @@ use mathlib.Core.Path.{_≡_, refl}
 use mathlib.Core.List.{List, [], _∷_}
 use lib.ListN.{length}
 use Rattle.token.specs.Tokens.{Tok}
-use Rattle.rules.specs.Out.{Out, done}
+use Rattle.rules.specs.Out.{Out}
 use Rattle.rules.specs.Turns.{turns, looping}
 
 -- what the loop goes on to do, in a state and with the tokens that are left

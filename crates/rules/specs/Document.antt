@@ -7,7 +7,7 @@ use Rattle.token.specs.declared.kind.Kind.the-variants.{Dot, Equals, Comma, Lef
 use Rattle.token.specs.Tokens.{Tok, tok}
 use Rattle.rules.specs.declared.event.Encoding.{Encoding}
 use Rattle.rules.specs.declared.document.InDocument.{InDocument}
-use Rattle.rules.specs.Out.{span, before, Item, report, Out, done, _▹_, _then_}
+use Rattle.rules.specs.Out.{span, before, report, Out, done, _▹_, _then_}
 use Rattle.rules.specs.Messages as message
 use Rattle.rules.specs.Expected as expected
 use Rattle.rules.specs.Receiver as receiver

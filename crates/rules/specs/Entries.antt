@@ -1,5 +1,4 @@
 -- The four entries: parse_document, parse_key, parse_simple_key, parse_value. Assumes nothing.
-use Prim.Native.Nat.{ℕ}
 use mathlib.Core.List.{List}
 use Rattle.token.specs.Tokens.{Tok}
 use Rattle.rules.specs.Limits.{maxDepth}

@@ -9,7 +9,7 @@ use Rattle.token.specs.declared.cursor.Sought.{Sought}
 use Rattle.rules.specs.declared.event.Encoding.{Encoding}
 use Rattle.rules.specs.declared.keys.InKey.{InKey}
 use Rattle.rules.specs.declared.skipping.InLine.{InLine}
-use Rattle.rules.specs.Out.{Look, span, before, found, afterFound, Item, report, Out, done, _▹_, _then_}
+use Rattle.rules.specs.Out.{Look, span, before, found, afterFound, report, Out, done, _▹_}
 use Rattle.rules.specs.Messages as message
 use Rattle.rules.specs.Expected as expected
 use Rattle.rules.specs.Receiver as receiver

@@ -9,7 +9,7 @@ use Rattle.token.specs.declared.kind.Kind.the-variants.{LeftSquareBracket, Righ
 use Rattle.token.specs.Kinds.{numberOf}
 use Rattle.token.specs.Tokens.{Tok, tok}
 use Rattle.token.specs.declared.cursor.Sought.{Sought}
-use Rattle.rules.specs.Out.{Look, span, after, afterFound, upToFound, Item, report, Out, done, _▹_, _then_}
+use Rattle.rules.specs.Out.{Look, span, after, afterFound, upToFound, report, Out, _▹_, _then_}
 use Rattle.rules.specs.Messages as message
 use Rattle.rules.specs.Expected as expected
 use Rattle.rules.specs.Receiver as receiver

@@ -6,7 +6,7 @@ use Rattle.token.specs.declared.kind.Kind.the-variants.{Dot, Equals, Comma, Lef
 use Rattle.token.specs.Tokens.{Tok, tok}
 use Rattle.rules.specs.declared.event.Encoding.{Encoding}
 use Rattle.rules.specs.declared.value.InValue.{InValue}
-use Rattle.rules.specs.Out.{span, before, found, afterFound, Item, report, Out, done, _▹_}
+use Rattle.rules.specs.Out.{span, before, found, afterFound, report, Out, done, _▹_}
 use Rattle.rules.specs.Messages as message
 use Rattle.rules.specs.Expected as expected
 use Rattle.rules.specs.Receiver as receiver

@@ -11,9 +11,7 @@ use Rattle.token.specs.declared.cursor.Token.{Token}
 use Rattle.token.specs.declared.cursor.Cursor.{Cursor}
 use Rattle.rules.specs.declared.scalar.InScalar.{InScalar}
 use Rattle.rules.specs.declared.scalar.Starting.{Starting}
-use Rattle.rules.specs.Out.{Out}
 use Rattle.rules.specs.Scalar.{inScalar, startingOf, unquoted, behindSpace, unquotedStep, scalarBy}
-use Rattle.scalars.specs.declared.scalar.Reach.{Reach}
 use Rattle.scalars.specs.ScalarWalks.{Reached, scalarOver}
 use Rattle.output.specs.WalkLaws.{rule-at, rule-end}
 

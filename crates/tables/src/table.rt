@@ -1,8 +1,8 @@
 // Tables and array tables.
+use dots::dots::opt_whitespace;
 use endings::line_end::ws_comment_newline;
-use keys::keys::key;
-use keys::keys::opt_whitespace;
 use lines::skipping::ignore_to_newline;
+use names::names::key;
 use output::emitting::Counts;
 use output::emitting::Walk;
 use output::emitting::emit;

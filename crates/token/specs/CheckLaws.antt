@@ -1,22 +1,21 @@
 -- Laws of the check of a list: a turn at a time, and what it lets through. Proved; nothing here needs to be believed.
 use mathlib.Core.Path.{_≡_, refl, ap, sym, subst, _∙_}
 use mathlib.Core.Bool.{Bool, true, false, cond, false≢true}
-use mathlib.Core.List.{List, [], _∷_}
+use mathlib.Core.List.{List}
 use Prim.Native.Nat.{ℕ, zero, suc, _+_, _-_, _*_, _%_, _<_, _≤_}
 use native.Mathlib.Omega.{arith}
 use native.Mathlib.Numerals.{add-one}
-use native.Mathlib.Nat.{add-zero, add-suc}
+use native.Mathlib.Nat.{add-zero}
 use lib.ListN.{length}
 use lib.Dec.{eqb, ltb, leb}
 use borrow.Author.Tests.{ltb-true, ltb-false, leb-true, leb-false, eqb-true, eq-eqb, le-ltb}
-use Rattle.token.specs.declared.kind.Kind.{Kind}
 use Rattle.token.specs.declared.kind.Width.{Width}
 use Rattle.token.specs.declared.check.Checked.{Checked}
 use Rattle.token.specs.declared.cursor.Cursor.{Cursor}
 use Rattle.token.specs.Limits.{maxRecords, maxEnd}
 use Rattle.token.specs.Kinds.{kindOf, widthOf, widthFits}
 use Rattle.token.specs.Records.{count, lengthAt, kindNumberAt, kindAt, startAt}
-use Rattle.token.specs.Tokens.{Tok, tok, tokensFrom, allTokens, Good, At}
+use Rattle.token.specs.Tokens.{tokensFrom, allTokens, Good, At}
 use Rattle.token.specs.Check.{recordRefusal, refusedAt, checkedFrom, passed, checked}
 use Rattle.token.specs.Laid.{Spans, Laid, laidNone, laidToken}
 

@@ -1,5 +1,5 @@
 -- Laws of cursors and of the tokens that are left. Proved; nothing here needs to be believed.
-use mathlib.Core.Path.{_≡_, refl, ap, sym, subst, _∙_}
+use mathlib.Core.Path.{_≡_, refl, ap, sym, _∙_}
 use mathlib.Core.List.{List, [], _∷_}
 use Prim.Native.Nat.{ℕ, zero, suc, _+_, _-_, _<_, _≤_}
 use native.Mathlib.Omega.{arith}
@@ -11,7 +11,7 @@ use Rattle.token.specs.declared.cursor.Token.{Token}
 use Rattle.token.specs.declared.cursor.Cursor.{Cursor}
 use Rattle.token.specs.Limits.{maxEnd}
 use Rattle.token.specs.Records.{count, lengthAt, kindAt, startAt}
-use Rattle.token.specs.Tokens.{Tok, tok, tokensFrom, allTokens, tokensAt, Good, Took, Back}
+use Rattle.token.specs.Tokens.{tok, tokensFrom, allTokens, tokensAt, Good, Took, Back}
 
 -- later records start later
 starts-up : (s : List ℕ) (b k i : ℕ) → startAt s b i ≤ startAt s b (k + i)

@@ -1,7 +1,6 @@
 -- Looking back for a token. Assumes nothing.
 use mathlib.Core.Bool.{Bool, true, false, cond}
 use mathlib.Core.List.{List, [], _∷_}
-use Prim.Native.Nat.{ℕ}
 use Rattle.token.specs.declared.kind.Kind.{Kind}
 use Rattle.token.specs.declared.kind.InSearch.{InSearch}
 use Rattle.token.specs.declared.span.Span.{Span}

@@ -7,8 +7,7 @@ use crate::record::kind_at;
 use crate::record::length_at;
 use crate::span::Span;
 ghost use mathlib.Core.Path.{_≡_};
-ghost use Prim.Native.Nat.{_<_, _≤_};
-ghost use Rattle.token.specs.Records.{count};
+ghost use Prim.Native.Nat.{_<_};
 ghost use Rattle.token.specs.Tokens.{Good, At, Next, NextIf, Peek, Back, tokensBefore};
 ghost use Rattle.token.specs.Search.{isSought, nearest};
 

@@ -1,6 +1,6 @@
 // The sixteen kinds of token, and what a kind is to the functions of this layer.
 ghost use mathlib.Core.Path.{_≡_};
-ghost use Rattle.token.specs.Kinds.{kindOf, numberOf, widthOf, inSearch};
+ghost use Rattle.token.specs.Kinds.{kindOf, numberOf, inSearch};
 
 pub enum Kind {
     Dot,

@@ -3,7 +3,6 @@ use crate::kind::Kind;
 use crate::kind::kind_of;
 ghost use mathlib.Core.Path.{_≡_};
 ghost use Prim.Native.Nat.{_<_};
-ghost use Rattle.token.specs.Kinds.{kindOf};
 ghost use Rattle.token.specs.Records.{count, lengthAt, kindNumberAt, kindAt};
 
 fn wide(byte: u8) -> u32

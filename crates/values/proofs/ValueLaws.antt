@@ -1,38 +1,34 @@
--- Laws of values and expressions, a token at a time. Assumes nothing.
+-- Laws of values, a token at a time. Assumes nothing.
 use mathlib.Core.Path.{_≡_, refl, ap, sym, subst, _∙_}
-use mathlib.Core.Bool.{true}
 use mathlib.Core.List.{List, _∷_}
 use Prim.Native.Nat.{ℕ, _≤_}
 use native.Mathlib.Omega.{arith}
-use Rattle.token.specs.Tokens.{Tok, tok, allTokens, tokensAt, Took, Back, startsWith}
-use Rattle.token.specs.CursorLaws.{back-past}
+use Rattle.token.specs.Tokens.{Tok, tok, allTokens, tokensAt, Took}
 use Rattle.token.specs.declared.kind.Kind.{Kind}
 use Rattle.token.specs.declared.kind.Kind.the-variants.{Dot, Equals, Comma, LeftSquareBracket, RightSquareBracket, LeftCurlyBracket, RightCurlyBracket, Whitespace, Comment, Newline, LiteralString, BasicString, MlLiteralString, MlBasicString, Atom, Eof}
 use Rattle.token.specs.declared.cursor.Token.{Token}
 use Rattle.token.specs.declared.cursor.Cursor.{Cursor}
 use Rattle.rules.specs.declared.value.InValue.{InValue}
 use Rattle.rules.specs.declared.scalar.Starting.{Starting}
-use Rattle.rules.specs.Out.{before, report, Out, done, _▹_}
-use Rattle.rules.specs.Expected as expected
-use Rattle.rules.specs.Document.{noEquals}
-use Rattle.rules.specs.Skipping.{ignoreToNewline}
+use Rattle.rules.specs.Out.{Out, done}
 use Rattle.rules.specs.Scalar.{startingOf}
 use Rattle.rules.specs.Value.{inValue, value, valueStep}
 use Rattle.output.specs.Pour.{Bufs, pour}
 use Rattle.output.specs.Walks.{End, run}
-use Rattle.output.specs.WalkLaws.{Looped, at-token}
+use Rattle.output.specs.WalkLaws.{Looped, rule-at, by-rule}
 use Rattle.scalars.specs.ScalarWalks.{Starts}
 use Rattle.nest.specs.declared.nest.NestWalk.{NestWalk}
 use Rattle.nest.specs.Nested.{outOf, Nested}
-use Rattle.keys.specs.KeyWalks.{ReadDot}
-use Rattle.values.specs.Expressed.{Expressed}
 
--- a value, by what the kind is where one is wanted
-pub value-at : (s : List ℕ) (c d : Cursor) (t : Token) → Took s c t d → (x y : InValue) → x ≡ inValue (t .kind) → x ≡ y → (all : List Tok) (o : Bufs) (levels : ℕ)
-    → run all (value levels (tokensAt s c)) o ≡ run all (valueStep y levels (t .kind) (t .start) (t .end) (tokensAt s d) (done (tokensAt s c)) (value levels (tokensAt s d))) o
-value-at s c d t k x y p q all o levels =
-    at-token all o s c d t (value levels) inValue (λ z. valueStep z levels (t .kind) (t .start) (t .end) (tokensAt s d) (done (tok (t .kind) (t .start) (t .end) ∷ tokensAt s d)) (value levels (tokensAt s d))) x y k refl p q
-    ∙ ap (λ (ts : List Tok). run all (valueStep y levels (t .kind) (t .start) (t .end) (tokensAt s d) (done ts) (value levels (tokensAt s d))) o) (sym (k .seen))
+module _ (s : List ℕ) (c d : Cursor) (t : Token) (k : Took s c t d) (x y : InValue) (p : x ≡ inValue (t .kind)) (q : x ≡ y) where
+  -- a value, by what the kind is where one is wanted
+  pub value-is : (levels : ℕ) → value levels (tokensAt s c) ≡ valueStep y levels (t .kind) (t .start) (t .end) (tokensAt s d) (done (tokensAt s c)) (value levels (tokensAt s d))
+  value-is levels =
+      rule-at s c d t (value levels) inValue (λ z. valueStep z levels (t .kind) (t .start) (t .end) (tokensAt s d) (done (tok (t .kind) (t .start) (t .end) ∷ tokensAt s d)) (value levels (tokensAt s d))) x y k refl p q
+      ∙ ap (λ (ts : List Tok). valueStep y levels (t .kind) (t .start) (t .end) (tokensAt s d) (done ts) (value levels (tokensAt s d))) (sym (k .seen))
+
+  pub value-at : (all : List Tok) (o : Bufs) (levels : ℕ) → run all (value levels (tokensAt s c)) o ≡ run all (valueStep y levels (t .kind) (t .start) (t .end) (tokensAt s d) (done (tokensAt s c)) (value levels (tokensAt s d))) o
+  value-at all o levels = by-rule all o _ _ (value-is levels)
 
 -- a kind that is taken for a scalar starts one
 abbrev ScalarStarts : InValue → Starting → Type 0
@@ -77,15 +73,3 @@ finish-nested {s} {start = start} {o₀ = o₀} {cur₀ = cur₀} inv {a = a} {b
       on = omega (arith, h, y .on, inv .on);
       base = y .base ∙ q ∙ inv .base;
     }
-
--- no `=` at a token that was seen
-pub equals-missing : (s : List ℕ) (c d : Cursor) (t : Token) (m : ℕ) → Took s c t d → (report m expected.equals (before (t .start) (t .end)) (before (t .start) (t .end)) ▹ ignoreToNewline (tokensAt s c)) ≡ noEquals m (tokensAt s c)
-equals-missing s c d t m k = ap (λ (ts : List Tok). report m expected.equals (before (t .start) (t .end)) (before (t .start) (t .end)) ▹ ignoreToNewline ts) (k .seen) ∙ sym (ap (noEquals m) (k .seen))
-
--- an expression from a dot that was read, by a cursor that went back to it
-pub dot-nested : {s : List ℕ} {t : Token} {c d : Cursor} {o : Bufs} {a b : List ℕ} {v : NestWalk} (f : List Tok → Out) → ReadDot s t c → Back s c d → Expressed s (f (tokensAt s d)) d o a b v → Nested s (f (tok Dot (t .start) (t .end) ∷ tokensAt s c)) c o a b v
-dot-nested {s} {t} {c} {d} {o} {a} {b} {v} f r h x =
-    let e : tokensAt s d ≡ tok Dot (t .start) (t .end) ∷ tokensAt s c = ap (tokensAt s) (back-past s (r .from) t c d (r .good) (r .took) h) ∙ r .took .seen ∙ ap (λ (k : Kind). tok k (t .start) (t .end) ∷ tokensAt s c) (r .dot) in
-    let y : Nested s (f (tok Dot (t .start) (t .end) ∷ tokensAt s c)) d o a b v = subst (λ (ts : List Tok). Nested s (f ts) d o a b v) e (x .nested) in
-    let g : startsWith Dot (tokensAt s d) ≡ true = ap (startsWith Dot) e in
-    record { wrote = λ base q. y .wrote base (h .base ∙ q); rest = y .rest; good = y .good; on = omega (arith, x .dotted g, h .on); base = y .base ∙ h .base }

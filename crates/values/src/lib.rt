@@ -1,3 +1,2 @@
-// Values and expressions. Each function is proved equal to its rule.
-pub mod expression;
+// Values. Each function is proved equal to its rule.
 pub mod value;

@@ -1,5 +1,5 @@
 // Values.
-use keys::keys::nothing_left;
+use dots::dots::nothing_left;
 use nest::nest::NestWalk;
 use nest::nest::on_array_open;
 use nest::nest::on_inline_table_open;
@@ -86,4 +86,55 @@ pub fn value(
             }
         }
     }
+}
+
+// A value as `value` reads it, the usual cases first: `{`, `[` and a scalar. It has one call site, so that it is compiled into its
+// caller. Copies are handed to what stays out of line, so that the caller's cursor and counts stay in registers.
+pub fn usual_value(
+    s: &[u8],
+    c: Cursor,
+    m: Counts,
+    levels: u32,
+    events: &mut [u32],
+    errors: &mut [u32],
+) -> NestWalk
+    requires { ⌜ Good (now s) c ⌝ }
+    ensures { λ r. ⌜ Nested (now (s .entry)) (value levels (tokensAt (now (s .entry)) c)) c (bufs (now (events .entry)) (now (errors .entry)) m) (now (events .exit)) (now (errors .exit)) r ⌝ }
+{
+    let step = c.next(s);
+    match step {
+        Step::Got(t, past) => {
+            let k = t.kind;
+            let x = in_value(k);
+            match x {
+                InValue::OpenCurly => {
+                    let list = s;
+                    let head = t;
+                    let from = past;
+                    let sofar = m;
+                    return on_inline_table_open(list, head, from, sofar, levels, events, errors);
+                }
+                InValue::OpenSquare => {
+                    let list = s;
+                    let head = t;
+                    let from = past;
+                    let sofar = m;
+                    return on_array_open(list, head, from, sofar, levels, events, errors);
+                }
+                InValue::Scalar => {
+                    let w = on_scalar(s, t, past, m, events, errors);
+                    return unstopped(w);
+                }
+                InValue::Nothing => {}
+                InValue::Equals => {}
+                InValue::CloseSquare => {}
+                InValue::CloseCurly => {}
+            }
+        }
+        Step::Done => {}
+    }
+    let list = s;
+    let from = c;
+    let sofar = m;
+    value(list, from, sofar, levels, events, errors)
 }

@@ -1,6 +1,5 @@
 -- The frames that are still allowed become fewer. Assumes nothing.
 -- Made by ./proofs from Proof.tmpl: change that.
-use native.Mathlib.Omega.{arith}
 use borrow.Author.Needs.{needs}
 use Rattle.vectors.proofs.replay_file.Statement.{statement}
 use Rattle.vectors.proofs.replay_file.Tie as tie

@@ -1,6 +1,6 @@
 -- One answer an arm: the rule at the token, what was emitted, and what is next.
 -- Made by ./proofs from Proof.tmpl: change that.
-use mathlib.Core.Path.{_≡_, refl, sym, _∙_}
+use mathlib.Core.Path.{refl, _∙_}
 use native.Mathlib.Omega.{arith}
 use Rattle.rules.specs.Out.{span, done, _▸_}
 use Rattle.rules.specs.Array.{arrayTurn, missingComma}
@@ -42,7 +42,7 @@ returns c =
       good = (c .before .before .before .before .before .before .before .before .before .before .before .before .before .before .pre);
       on = omega arith;
       base = refl;
-    })
+    }) tt
 
 in-array-requires : tie.Need-in-array-requires
 in-array-requires c κs = search needs
@@ -177,19 +177,19 @@ returns-2 c =
       good = (c .before .before .before .before .before .on-comment) .ensures .good;
       on = omega (arith, (told _ _ _ _ _ ((c .before .before .before .before .before .before .before .before .before .before .before .before .before .before .next) .ensures) ((c .before .before .before .before .before .before .before .before .before .before .before .before .step) .given .1)) .on, (c .before .before .before .before .before .on-comment) .ensures .on);
       base = (c .before .before .before .before .before .on-comment) .ensures .base ∙ (told _ _ _ _ _ ((c .before .before .before .before .before .before .before .before .before .before .before .before .before .before .next) .ensures) ((c .before .before .before .before .before .before .before .before .before .before .before .before .step) .given .1)) .base;
-    })
+    }) tt
 
 same-length-5 : tie.Need-same-length-5
 same-length-5 c = search needs
 
 returns-3 : tie.Need-returns-3
-returns-3 c = array-as ((c .again2) .ensures) (record { is = λ base q nest loop. array-at _ _ _ _ (told _ _ _ _ _ ((c .before .before .before .before .before .before .before .before .before .before .before .next) .ensures) ((c .before .before .before .before .before .before .before .before .before .step) .given .1)) _ _ ((c .before .before .before .before .before .before .before .in-array) .ensures) ((c .before .before .before .before .before .enum-told3) .given .1) _ _ (span ((c .before .before .before .before .before .before .before .before .before .before .before .before .before .before .before .args) .head .start) ((c .before .before .before .before .before .before .before .before .before .before .before .before .before .before .before .args) .head .end)) nest loop ((c .before .before .before .before .before .before .before .before .before .before .before .before .before .before .before .args) .state) ∙ ((first-item _ _ _ _ _ (c .before .before .before .emit .ensures _ _))); good = (told _ _ _ _ _ ((c .before .before .before .before .before .before .before .before .before .before .before .next) .ensures) ((c .before .before .before .before .before .before .before .before .before .step) .given .1)) .good; on = omega (arith, (told _ _ _ _ _ ((c .before .before .before .before .before .before .before .before .before .before .before .next) .ensures) ((c .before .before .before .before .before .before .before .before .before .step) .given .1)) .on); base = (told _ _ _ _ _ ((c .before .before .before .before .before .before .before .before .before .before .before .next) .ensures) ((c .before .before .before .before .before .before .before .before .before .step) .given .1)) .base })
+returns-3 c = array-as ((c .again2) .ensures) (record { is = λ base q nest loop. array-at _ _ _ _ (told _ _ _ _ _ ((c .before .before .before .before .before .before .before .before .before .before .before .next) .ensures) ((c .before .before .before .before .before .before .before .before .before .step) .given .1)) _ _ ((c .before .before .before .before .before .before .before .in-array) .ensures) ((c .before .before .before .before .before .enum-told3) .given .1) _ _ (span ((c .before .before .before .before .before .before .before .before .before .before .before .before .before .before .before .args) .head .start) ((c .before .before .before .before .before .before .before .before .before .before .before .before .before .before .before .args) .head .end)) nest loop ((c .before .before .before .before .before .before .before .before .before .before .before .before .before .before .before .args) .state) ∙ ((first-item _ _ _ _ _ (c .before .before .before .emit .ensures _ _))); good = (told _ _ _ _ _ ((c .before .before .before .before .before .before .before .before .before .before .before .next) .ensures) ((c .before .before .before .before .before .before .before .before .before .step) .given .1)) .good; on = omega (arith, (told _ _ _ _ _ ((c .before .before .before .before .before .before .before .before .before .before .before .next) .ensures) ((c .before .before .before .before .before .before .before .before .before .step) .given .1)) .on); base = (told _ _ _ _ _ ((c .before .before .before .before .before .before .before .before .before .before .before .next) .ensures) ((c .before .before .before .before .before .before .before .before .before .step) .given .1)) .base }) tt
 
 same-length-6 : tie.Need-same-length-6
 same-length-6 c = search needs
 
 returns-4 : tie.Need-returns-4
-returns-4 c = array-as ((c .again3) .ensures) (record { is = λ base q nest loop. array-at _ _ _ _ (told _ _ _ _ _ ((c .before .before .before .before .before .before .before .before .before .before .before .next) .ensures) ((c .before .before .before .before .before .before .before .before .before .step) .given .1)) _ _ ((c .before .before .before .before .before .before .before .in-array) .ensures) ((c .before .before .before .before .before .enum-told4) .given .1) _ _ (span ((c .before .before .before .before .before .before .before .before .before .before .before .before .before .before .before .args) .head .start) ((c .before .before .before .before .before .before .before .before .before .before .before .before .before .before .before .args) .head .end)) nest loop ((c .before .before .before .before .before .before .before .before .before .before .before .before .before .before .before .args) .state) ∙ ((first-item _ _ _ _ _ (c .before .before .before .emit2 .ensures _ _))); good = (told _ _ _ _ _ ((c .before .before .before .before .before .before .before .before .before .before .before .next) .ensures) ((c .before .before .before .before .before .before .before .before .before .step) .given .1)) .good; on = omega (arith, (told _ _ _ _ _ ((c .before .before .before .before .before .before .before .before .before .before .before .next) .ensures) ((c .before .before .before .before .before .before .before .before .before .step) .given .1)) .on); base = (told _ _ _ _ _ ((c .before .before .before .before .before .before .before .before .before .before .before .next) .ensures) ((c .before .before .before .before .before .before .before .before .before .step) .given .1)) .base })
+returns-4 c = array-as ((c .again3) .ensures) (record { is = λ base q nest loop. array-at _ _ _ _ (told _ _ _ _ _ ((c .before .before .before .before .before .before .before .before .before .before .before .next) .ensures) ((c .before .before .before .before .before .before .before .before .before .step) .given .1)) _ _ ((c .before .before .before .before .before .before .before .in-array) .ensures) ((c .before .before .before .before .before .enum-told4) .given .1) _ _ (span ((c .before .before .before .before .before .before .before .before .before .before .before .before .before .before .before .args) .head .start) ((c .before .before .before .before .before .before .before .before .before .before .before .before .before .before .before .args) .head .end)) nest loop ((c .before .before .before .before .before .before .before .before .before .before .before .before .before .before .before .args) .state) ∙ ((first-item _ _ _ _ _ (c .before .before .before .emit2 .ensures _ _))); good = (told _ _ _ _ _ ((c .before .before .before .before .before .before .before .before .before .before .before .next) .ensures) ((c .before .before .before .before .before .before .before .before .before .step) .given .1)) .good; on = omega (arith, (told _ _ _ _ _ ((c .before .before .before .before .before .before .before .before .before .before .before .next) .ensures) ((c .before .before .before .before .before .before .before .before .before .step) .given .1)) .on); base = (told _ _ _ _ _ ((c .before .before .before .before .before .before .before .before .before .before .before .next) .ensures) ((c .before .before .before .before .before .before .before .before .before .step) .given .1)) .base }) tt
 
 same-length-7 : tie.Need-same-length-7
 same-length-7 c = search needs
@@ -198,7 +198,7 @@ same-length-8 : tie.Need-same-length-8
 same-length-8 c = search needs
 
 returns-5 : tie.Need-returns-5
-returns-5 c = array-as ((c .over2) .ensures) (record { is = λ base q nest loop. array-at _ _ _ _ (told _ _ _ _ _ ((c .before .before .before .before .before .before .before .before .before .before .before .before .before .before .before .next) .ensures) ((c .before .before .before .before .before .before .before .before .before .before .before .before .before .step) .given .1)) _ _ ((c .before .before .before .before .before .before .before .before .before .before .before .in-array) .ensures) ((c .before .before .before .before .before .before .before .before .before .enum-told5) .given .1) _ _ (span ((c .before .before .before .before .before .before .before .before .before .before .before .before .before .before .before .before .before .before .before .args) .head .start) ((c .before .before .before .before .before .before .before .before .before .before .before .before .before .before .before .before .before .before .before .args) .head .end)) nest loop ((c .before .before .before .before .before .before .before .before .before .before .before .before .before .before .before .before .before .before .before .args) .state) ∙ ((first-item _ _ _ _ _ (c .before .before .before .before .before .before .before .report-at .ensures _ _)) ∙ (first-item _ _ _ _ _ (c .before .before .before .emit3 .ensures _ _))); good = (told _ _ _ _ _ ((c .before .before .before .before .before .before .before .before .before .before .before .before .before .before .before .next) .ensures) ((c .before .before .before .before .before .before .before .before .before .before .before .before .before .step) .given .1)) .good; on = omega (arith, (told _ _ _ _ _ ((c .before .before .before .before .before .before .before .before .before .before .before .before .before .before .before .next) .ensures) ((c .before .before .before .before .before .before .before .before .before .before .before .before .before .step) .given .1)) .on); base = (told _ _ _ _ _ ((c .before .before .before .before .before .before .before .before .before .before .before .before .before .before .before .next) .ensures) ((c .before .before .before .before .before .before .before .before .before .before .before .before .before .step) .given .1)) .base })
+returns-5 c = array-as ((c .over2) .ensures) (record { is = λ base q nest loop. array-at _ _ _ _ (told _ _ _ _ _ ((c .before .before .before .before .before .before .before .before .before .before .before .before .before .before .before .next) .ensures) ((c .before .before .before .before .before .before .before .before .before .before .before .before .before .step) .given .1)) _ _ ((c .before .before .before .before .before .before .before .before .before .before .before .in-array) .ensures) ((c .before .before .before .before .before .before .before .before .before .enum-told5) .given .1) _ _ (span ((c .before .before .before .before .before .before .before .before .before .before .before .before .before .before .before .before .before .before .before .args) .head .start) ((c .before .before .before .before .before .before .before .before .before .before .before .before .before .before .before .before .before .before .before .args) .head .end)) nest loop ((c .before .before .before .before .before .before .before .before .before .before .before .before .before .before .before .before .before .before .before .args) .state) ∙ ((first-item _ _ _ _ _ (c .before .before .before .before .before .before .before .report-at .ensures _ _)) ∙ (first-item _ _ _ _ _ (c .before .before .before .emit3 .ensures _ _))); good = (told _ _ _ _ _ ((c .before .before .before .before .before .before .before .before .before .before .before .before .before .before .before .next) .ensures) ((c .before .before .before .before .before .before .before .before .before .before .before .before .before .step) .given .1)) .good; on = omega (arith, (told _ _ _ _ _ ((c .before .before .before .before .before .before .before .before .before .before .before .before .before .before .before .next) .ensures) ((c .before .before .before .before .before .before .before .before .before .before .before .before .before .step) .given .1)) .on); base = (told _ _ _ _ _ ((c .before .before .before .before .before .before .before .before .before .before .before .before .before .before .before .next) .ensures) ((c .before .before .before .before .before .before .before .before .before .before .before .before .before .step) .given .1)) .base }) tt
 
 same-length-9 : tie.Need-same-length-9
 same-length-9 c = search needs
@@ -207,7 +207,7 @@ same-length-10 : tie.Need-same-length-10
 same-length-10 c = search needs
 
 returns-6 : tie.Need-returns-6
-returns-6 c = array-as ((c .again4) .ensures) (record { is = λ base q nest loop. comma-at _ _ _ _ (told _ _ _ _ _ ((c .before .before .before .before .before .before .before .before .before .before .before .before .before .before .next) .ensures) ((c .before .before .before .before .before .before .before .before .before .before .before .before .step) .given .1)) _ _ ((c .before .before .before .before .before .before .before .before .before .before .in-array) .ensures) ((c .before .before .before .before .before .before .before .before .enum-told6) .given .1) _ _ (span ((c .before .before .before .before .before .before .before .before .before .before .before .before .before .before .before .before .before .before .args) .head .start) ((c .before .before .before .before .before .before .before .before .before .before .before .before .before .before .before .before .before .before .args) .head .end)) nest loop ((c .before .before .before .before .before .before .before .before .before .before .before .before .before .before .before .before .before .before .args) .state) refl ∙ first-items _ (commaItems (span ((c .before .before .before .before .before .before .before .before .before .before .before .before .before .before .before .before .before .before .args) .head .start) ((c .before .before .before .before .before .before .before .before .before .before .before .before .before .before .before .before .before .before .args) .head .end)) ((c .before .before .before .before .before .before .before .before .before .before .before .before .before .before .before .before .before .before .args) .state) ((c .before .before .before .before .before .before .before .before .before .before .before .before .step) .given .0 .0 .start) ((c .before .before .before .before .before .before .before .before .before .before .before .before .step) .given .0 .0 .end)) _ (bufs ((c .before .before .before .before .before .before .before .before .before .before .before .before .before .before .before .before .before .before .args) .events .now) ((c .before .before .before .before .before .before .before .before .before .before .before .before .before .before .before .before .before .before .args) .errors .now) ((c .before .before .before .before .before .before .before .before .before .before .before .before .before .before .before .before .before .before .args) .m)) _ ((c .before .before .before .before .before .comma) .ensures _); good = (told _ _ _ _ _ ((c .before .before .before .before .before .before .before .before .before .before .before .before .before .before .next) .ensures) ((c .before .before .before .before .before .before .before .before .before .before .before .before .step) .given .1)) .good; on = omega (arith, (told _ _ _ _ _ ((c .before .before .before .before .before .before .before .before .before .before .before .before .before .before .next) .ensures) ((c .before .before .before .before .before .before .before .before .before .before .before .before .step) .given .1)) .on); base = (told _ _ _ _ _ ((c .before .before .before .before .before .before .before .before .before .before .before .before .before .before .next) .ensures) ((c .before .before .before .before .before .before .before .before .before .before .before .before .step) .given .1)) .base })
+returns-6 c = array-as ((c .again4) .ensures) (record { is = λ base q nest loop. comma-at _ _ _ _ (told _ _ _ _ _ ((c .before .before .before .before .before .before .before .before .before .before .before .before .before .before .next) .ensures) ((c .before .before .before .before .before .before .before .before .before .before .before .before .step) .given .1)) _ _ ((c .before .before .before .before .before .before .before .before .before .before .in-array) .ensures) ((c .before .before .before .before .before .before .before .before .enum-told6) .given .1) _ _ (span ((c .before .before .before .before .before .before .before .before .before .before .before .before .before .before .before .before .before .before .args) .head .start) ((c .before .before .before .before .before .before .before .before .before .before .before .before .before .before .before .before .before .before .args) .head .end)) nest loop ((c .before .before .before .before .before .before .before .before .before .before .before .before .before .before .before .before .before .before .args) .state) refl ∙ first-items _ (commaItems (span ((c .before .before .before .before .before .before .before .before .before .before .before .before .before .before .before .before .before .before .args) .head .start) ((c .before .before .before .before .before .before .before .before .before .before .before .before .before .before .before .before .before .before .args) .head .end)) ((c .before .before .before .before .before .before .before .before .before .before .before .before .before .before .before .before .before .before .args) .state) ((c .before .before .before .before .before .before .before .before .before .before .before .before .step) .given .0 .0 .start) ((c .before .before .before .before .before .before .before .before .before .before .before .before .step) .given .0 .0 .end)) _ (bufs ((c .before .before .before .before .before .before .before .before .before .before .before .before .before .before .before .before .before .before .args) .events .now) ((c .before .before .before .before .before .before .before .before .before .before .before .before .before .before .before .before .before .before .args) .errors .now) ((c .before .before .before .before .before .before .before .before .before .before .before .before .before .before .before .before .before .before .args) .m)) _ ((c .before .before .before .before .before .comma) .ensures _); good = (told _ _ _ _ _ ((c .before .before .before .before .before .before .before .before .before .before .before .before .before .before .next) .ensures) ((c .before .before .before .before .before .before .before .before .before .before .before .before .step) .given .1)) .good; on = omega (arith, (told _ _ _ _ _ ((c .before .before .before .before .before .before .before .before .before .before .before .before .before .before .next) .ensures) ((c .before .before .before .before .before .before .before .before .before .before .before .before .step) .given .1)) .on); base = (told _ _ _ _ _ ((c .before .before .before .before .before .before .before .before .before .before .before .before .before .before .next) .ensures) ((c .before .before .before .before .before .before .before .before .before .before .before .before .step) .given .1)) .base }) tt
 
 same-length-11 : tie.Need-same-length-11
 same-length-11 c = search needs
@@ -216,7 +216,7 @@ same-length-12 : tie.Need-same-length-12
 same-length-12 c = search needs
 
 returns-7 : tie.Need-returns-7
-returns-7 c = array-as ((c .again5) .ensures) (record { is = λ base q nest loop. array-at _ _ _ _ (told _ _ _ _ _ ((c .before .before .before .before .before .before .before .before .before .before .before .before .before .before .before .next) .ensures) ((c .before .before .before .before .before .before .before .before .before .before .before .before .before .step) .given .1)) _ _ ((c .before .before .before .before .before .before .before .before .before .before .before .in-array) .ensures) ((c .before .before .before .before .before .before .before .before .before .enum-told7) .given .1) _ _ (span ((c .before .before .before .before .before .before .before .before .before .before .before .before .before .before .before .before .before .before .before .args) .head .start) ((c .before .before .before .before .before .before .before .before .before .before .before .before .before .before .before .before .before .before .before .args) .head .end)) nest loop ((c .before .before .before .before .before .before .before .before .before .before .before .before .before .before .before .before .before .before .before .args) .state) ∙ ((first-item _ _ _ _ _ (c .before .before .before .before .before .before .before .report-at2 .ensures _ _)) ∙ (first-item _ _ _ _ _ (c .before .before .before .emit4 .ensures _ _))); good = (told _ _ _ _ _ ((c .before .before .before .before .before .before .before .before .before .before .before .before .before .before .before .next) .ensures) ((c .before .before .before .before .before .before .before .before .before .before .before .before .before .step) .given .1)) .good; on = omega (arith, (told _ _ _ _ _ ((c .before .before .before .before .before .before .before .before .before .before .before .before .before .before .before .next) .ensures) ((c .before .before .before .before .before .before .before .before .before .before .before .before .before .step) .given .1)) .on); base = (told _ _ _ _ _ ((c .before .before .before .before .before .before .before .before .before .before .before .before .before .before .before .next) .ensures) ((c .before .before .before .before .before .before .before .before .before .before .before .before .before .step) .given .1)) .base })
+returns-7 c = array-as ((c .again5) .ensures) (record { is = λ base q nest loop. array-at _ _ _ _ (told _ _ _ _ _ ((c .before .before .before .before .before .before .before .before .before .before .before .before .before .before .before .next) .ensures) ((c .before .before .before .before .before .before .before .before .before .before .before .before .before .step) .given .1)) _ _ ((c .before .before .before .before .before .before .before .before .before .before .before .in-array) .ensures) ((c .before .before .before .before .before .before .before .before .before .enum-told7) .given .1) _ _ (span ((c .before .before .before .before .before .before .before .before .before .before .before .before .before .before .before .before .before .before .before .args) .head .start) ((c .before .before .before .before .before .before .before .before .before .before .before .before .before .before .before .before .before .before .before .args) .head .end)) nest loop ((c .before .before .before .before .before .before .before .before .before .before .before .before .before .before .before .before .before .before .before .args) .state) ∙ ((first-item _ _ _ _ _ (c .before .before .before .before .before .before .before .report-at2 .ensures _ _)) ∙ (first-item _ _ _ _ _ (c .before .before .before .emit4 .ensures _ _))); good = (told _ _ _ _ _ ((c .before .before .before .before .before .before .before .before .before .before .before .before .before .before .before .next) .ensures) ((c .before .before .before .before .before .before .before .before .before .before .before .before .before .step) .given .1)) .good; on = omega (arith, (told _ _ _ _ _ ((c .before .before .before .before .before .before .before .before .before .before .before .before .before .before .before .next) .ensures) ((c .before .before .before .before .before .before .before .before .before .before .before .before .before .step) .given .1)) .on); base = (told _ _ _ _ _ ((c .before .before .before .before .before .before .before .before .before .before .before .before .before .before .before .next) .ensures) ((c .before .before .before .before .before .before .before .before .before .before .before .before .before .step) .given .1)) .base }) tt
 
 same-length-13 : tie.Need-same-length-13
 same-length-13 c = search needs
@@ -225,7 +225,7 @@ same-length-14 : tie.Need-same-length-14
 same-length-14 c = search needs
 
 returns-8 : tie.Need-returns-8
-returns-8 c = array-as ((c .opening) .ensures) (record { is = λ base q nest loop. array-at _ _ _ _ (told _ _ _ _ _ ((c .before .before .before .before .before .before .before .before .before .before .before .before .before .before .next) .ensures) ((c .before .before .before .before .before .before .before .before .before .before .before .before .step) .given .1)) _ _ ((c .before .before .before .before .before .before .before .before .before .before .in-array) .ensures) ((c .before .before .before .before .before .before .before .before .enum-told8) .given .1) _ _ (span ((c .before .before .before .before .before .before .before .before .before .before .before .before .before .before .before .before .before .before .args) .head .start) ((c .before .before .before .before .before .before .before .before .before .before .before .before .before .before .before .before .before .before .args) .head .end)) nest loop ((c .before .before .before .before .before .before .before .before .before .before .before .before .before .before .before .before .before .before .args) .state) ∙ (first-items _ (missingComma (span ((c .before .before .before .before .before .before .before .before .before .before .before .before .before .before .before .before .before .before .args) .head .start) ((c .before .before .before .before .before .before .before .before .before .before .before .before .before .before .before .before .before .before .args) .head .end)) ((c .before .before .before .before .before .before .before .before .before .before .before .before .before .before .before .before .before .before .args) .state) ((c .before .before .before .before .before .before .before .before .before .before .before .before .step) .given .0 .0 .start) ((c .before .before .before .before .before .before .before .before .before .before .before .before .step) .given .0 .0 .end)) _ (bufs ((c .before .before .before .before .before .before .before .before .before .before .before .before .before .before .before .before .before .before .args) .events .now) ((c .before .before .before .before .before .before .before .before .before .before .before .before .before .before .before .before .before .before .args) .errors .now) ((c .before .before .before .before .before .before .before .before .before .before .before .before .before .before .before .before .before .before .args) .m)) _ ((c .before .before .before .before .before .missing-comma) .ensures _)); good = (told _ _ _ _ _ ((c .before .before .before .before .before .before .before .before .before .before .before .before .before .before .next) .ensures) ((c .before .before .before .before .before .before .before .before .before .before .before .before .step) .given .1)) .good; on = omega (arith, (told _ _ _ _ _ ((c .before .before .before .before .before .before .before .before .before .before .before .before .before .before .next) .ensures) ((c .before .before .before .before .before .before .before .before .before .before .before .before .step) .given .1)) .on); base = (told _ _ _ _ _ ((c .before .before .before .before .before .before .before .before .before .before .before .before .before .before .next) .ensures) ((c .before .before .before .before .before .before .before .before .before .before .before .before .step) .given .1)) .base })
+returns-8 c = array-as ((c .opening) .ensures) (record { is = λ base q nest loop. array-at _ _ _ _ (told _ _ _ _ _ ((c .before .before .before .before .before .before .before .before .before .before .before .before .before .before .next) .ensures) ((c .before .before .before .before .before .before .before .before .before .before .before .before .step) .given .1)) _ _ ((c .before .before .before .before .before .before .before .before .before .before .in-array) .ensures) ((c .before .before .before .before .before .before .before .before .enum-told8) .given .1) _ _ (span ((c .before .before .before .before .before .before .before .before .before .before .before .before .before .before .before .before .before .before .args) .head .start) ((c .before .before .before .before .before .before .before .before .before .before .before .before .before .before .before .before .before .before .args) .head .end)) nest loop ((c .before .before .before .before .before .before .before .before .before .before .before .before .before .before .before .before .before .before .args) .state) ∙ (first-items _ (missingComma (span ((c .before .before .before .before .before .before .before .before .before .before .before .before .before .before .before .before .before .before .args) .head .start) ((c .before .before .before .before .before .before .before .before .before .before .before .before .before .before .before .before .before .before .args) .head .end)) ((c .before .before .before .before .before .before .before .before .before .before .before .before .before .before .before .before .before .before .args) .state) ((c .before .before .before .before .before .before .before .before .before .before .before .before .step) .given .0 .0 .start) ((c .before .before .before .before .before .before .before .before .before .before .before .before .step) .given .0 .0 .end)) _ (bufs ((c .before .before .before .before .before .before .before .before .before .before .before .before .before .before .before .before .before .before .args) .events .now) ((c .before .before .before .before .before .before .before .before .before .before .before .before .before .before .before .before .before .before .args) .errors .now) ((c .before .before .before .before .before .before .before .before .before .before .before .before .before .before .before .before .before .before .args) .m)) _ ((c .before .before .before .before .before .missing-comma) .ensures _)); good = (told _ _ _ _ _ ((c .before .before .before .before .before .before .before .before .before .before .before .before .before .before .next) .ensures) ((c .before .before .before .before .before .before .before .before .before .before .before .before .step) .given .1)) .good; on = omega (arith, (told _ _ _ _ _ ((c .before .before .before .before .before .before .before .before .before .before .before .before .before .before .next) .ensures) ((c .before .before .before .before .before .before .before .before .before .before .before .before .step) .given .1)) .on); base = (told _ _ _ _ _ ((c .before .before .before .before .before .before .before .before .before .before .before .before .before .before .next) .ensures) ((c .before .before .before .before .before .before .before .before .before .before .before .before .step) .given .1)) .base }) refl
 
 same-length-15 : tie.Need-same-length-15
 same-length-15 c = ((c .before .before .before .emit6 .kept .0) ∙ (c .before .before .before .before .before .before .before .emit5 .kept .0) ∙ (c .before .before .before .before .before .before .before .before .before .before .before .before .before .before .before .before .before .missing-comma2 .kept .1 .1 .1 .1 .0))
@@ -234,7 +234,7 @@ same-length-16 : tie.Need-same-length-16
 same-length-16 c = search needs
 
 returns-9 : tie.Need-returns-9
-returns-9 c = array-as ((c .again6) .ensures) (record { is = λ base q nest loop. array-at _ _ _ _ (told _ _ _ _ _ ((c .before .before .before .before .before .before .before .before .before .before .before .before .before .before .before .before .before .before .before .before .before .before .before .before .before .before .next) .ensures) ((c .before .before .before .before .before .before .before .before .before .before .before .before .before .before .before .before .before .before .before .before .before .before .before .before .step) .given .1)) _ _ ((c .before .before .before .before .before .before .before .before .before .before .before .before .before .before .before .before .before .before .before .before .before .before .in-array) .ensures) ((c .before .before .before .before .before .before .before .before .before .before .before .before .before .before .before .before .before .before .before .before .enum-told9) .given .1) _ _ (span ((c .before .before .before .before .before .before .before .before .before .before .before .before .before .before .before .before .before .before .before .before .before .before .before .before .before .before .before .before .before .before .args) .head .start) ((c .before .before .before .before .before .before .before .before .before .before .before .before .before .before .before .before .before .before .before .before .before .before .before .before .before .before .before .before .before .before .args) .head .end)) nest loop ((c .before .before .before .before .before .before .before .before .before .before .before .before .before .before .before .before .before .before .before .before .before .before .before .before .before .before .before .before .before .before .args) .state) ∙ (first-items _ (missingComma (span ((c .before .before .before .before .before .before .before .before .before .before .before .before .before .before .before .before .before .before .before .before .before .before .before .before .before .before .before .before .before .before .args) .head .start) ((c .before .before .before .before .before .before .before .before .before .before .before .before .before .before .before .before .before .before .before .before .before .before .before .before .before .before .before .before .before .before .args) .head .end)) ((c .before .before .before .before .before .before .before .before .before .before .before .before .before .before .before .before .before .before .before .before .before .before .before .before .before .before .before .before .before .before .args) .state) ((c .before .before .before .before .before .before .before .before .before .before .before .before .before .before .before .before .before .before .before .before .before .before .before .before .step) .given .0 .0 .start) ((c .before .before .before .before .before .before .before .before .before .before .before .before .before .before .before .before .before .before .before .before .before .before .before .before .step) .given .0 .0 .end)) _ (bufs ((c .before .before .before .before .before .before .before .before .before .before .before .before .before .before .before .before .before .before .before .before .before .before .before .before .before .before .before .before .before .before .args) .events .now) ((c .before .before .before .before .before .before .before .before .before .before .before .before .before .before .before .before .before .before .before .before .before .before .before .before .before .before .before .before .before .before .args) .errors .now) ((c .before .before .before .before .before .before .before .before .before .before .before .before .before .before .before .before .before .before .before .before .before .before .before .before .before .before .before .before .before .before .args) .m)) _ ((c .before .before .before .before .before .before .before .before .before .before .before .before .before .before .before .before .before .missing-comma2) .ensures _)) ∙ ((first-item _ _ _ _ _ (c .before .before .before .before .before .before .before .before .before .before .before .report-before .ensures _ _)) ∙ (first-item _ _ _ _ _ (c .before .before .before .before .before .before .before .emit5 .ensures _ _)) ∙ (first-item _ _ _ _ _ (c .before .before .before .emit6 .ensures _ _))); good = (told _ _ _ _ _ ((c .before .before .before .before .before .before .before .before .before .before .before .before .before .before .before .before .before .before .before .before .before .before .before .before .before .before .next) .ensures) ((c .before .before .before .before .before .before .before .before .before .before .before .before .before .before .before .before .before .before .before .before .before .before .before .before .step) .given .1)) .good; on = omega (arith, (told _ _ _ _ _ ((c .before .before .before .before .before .before .before .before .before .before .before .before .before .before .before .before .before .before .before .before .before .before .before .before .before .before .next) .ensures) ((c .before .before .before .before .before .before .before .before .before .before .before .before .before .before .before .before .before .before .before .before .before .before .before .before .step) .given .1)) .on); base = (told _ _ _ _ _ ((c .before .before .before .before .before .before .before .before .before .before .before .before .before .before .before .before .before .before .before .before .before .before .before .before .before .before .next) .ensures) ((c .before .before .before .before .before .before .before .before .before .before .before .before .before .before .before .before .before .before .before .before .before .before .before .before .step) .given .1)) .base })
+returns-9 c = array-as ((c .again6) .ensures) (record { is = λ base q nest loop. array-at _ _ _ _ (told _ _ _ _ _ ((c .before .before .before .before .before .before .before .before .before .before .before .before .before .before .before .before .before .before .before .before .before .before .before .before .before .before .next) .ensures) ((c .before .before .before .before .before .before .before .before .before .before .before .before .before .before .before .before .before .before .before .before .before .before .before .before .step) .given .1)) _ _ ((c .before .before .before .before .before .before .before .before .before .before .before .before .before .before .before .before .before .before .before .before .before .before .in-array) .ensures) ((c .before .before .before .before .before .before .before .before .before .before .before .before .before .before .before .before .before .before .before .before .enum-told9) .given .1) _ _ (span ((c .before .before .before .before .before .before .before .before .before .before .before .before .before .before .before .before .before .before .before .before .before .before .before .before .before .before .before .before .before .before .args) .head .start) ((c .before .before .before .before .before .before .before .before .before .before .before .before .before .before .before .before .before .before .before .before .before .before .before .before .before .before .before .before .before .before .args) .head .end)) nest loop ((c .before .before .before .before .before .before .before .before .before .before .before .before .before .before .before .before .before .before .before .before .before .before .before .before .before .before .before .before .before .before .args) .state) ∙ (first-items _ (missingComma (span ((c .before .before .before .before .before .before .before .before .before .before .before .before .before .before .before .before .before .before .before .before .before .before .before .before .before .before .before .before .before .before .args) .head .start) ((c .before .before .before .before .before .before .before .before .before .before .before .before .before .before .before .before .before .before .before .before .before .before .before .before .before .before .before .before .before .before .args) .head .end)) ((c .before .before .before .before .before .before .before .before .before .before .before .before .before .before .before .before .before .before .before .before .before .before .before .before .before .before .before .before .before .before .args) .state) ((c .before .before .before .before .before .before .before .before .before .before .before .before .before .before .before .before .before .before .before .before .before .before .before .before .step) .given .0 .0 .start) ((c .before .before .before .before .before .before .before .before .before .before .before .before .before .before .before .before .before .before .before .before .before .before .before .before .step) .given .0 .0 .end)) _ (bufs ((c .before .before .before .before .before .before .before .before .before .before .before .before .before .before .before .before .before .before .before .before .before .before .before .before .before .before .before .before .before .before .args) .events .now) ((c .before .before .before .before .before .before .before .before .before .before .before .before .before .before .before .before .before .before .before .before .before .before .before .before .before .before .before .before .before .before .args) .errors .now) ((c .before .before .before .before .before .before .before .before .before .before .before .before .before .before .before .before .before .before .before .before .before .before .before .before .before .before .before .before .before .before .args) .m)) _ ((c .before .before .before .before .before .before .before .before .before .before .before .before .before .before .before .before .before .missing-comma2) .ensures _)) ∙ ((first-item _ _ _ _ _ (c .before .before .before .before .before .before .before .before .before .before .before .report-before .ensures _ _)) ∙ (first-item _ _ _ _ _ (c .before .before .before .before .before .before .before .emit5 .ensures _ _)) ∙ (first-item _ _ _ _ _ (c .before .before .before .emit6 .ensures _ _))); good = (told _ _ _ _ _ ((c .before .before .before .before .before .before .before .before .before .before .before .before .before .before .before .before .before .before .before .before .before .before .before .before .before .before .next) .ensures) ((c .before .before .before .before .before .before .before .before .before .before .before .before .before .before .before .before .before .before .before .before .before .before .before .before .step) .given .1)) .good; on = omega (arith, (told _ _ _ _ _ ((c .before .before .before .before .before .before .before .before .before .before .before .before .before .before .before .before .before .before .before .before .before .before .before .before .before .before .next) .ensures) ((c .before .before .before .before .before .before .before .before .before .before .before .before .before .before .before .before .before .before .before .before .before .before .before .before .step) .given .1)) .on); base = (told _ _ _ _ _ ((c .before .before .before .before .before .before .before .before .before .before .before .before .before .before .before .before .before .before .before .before .before .before .before .before .before .before .next) .ensures) ((c .before .before .before .before .before .before .before .before .before .before .before .before .before .before .before .before .before .before .before .before .before .before .before .before .step) .given .1)) .base }) tt
 
 same-length-17 : tie.Need-same-length-17
 same-length-17 c = search needs
@@ -243,13 +243,13 @@ same-length-18 : tie.Need-same-length-18
 same-length-18 c = search needs
 
 returns-10 : tie.Need-returns-10
-returns-10 c = array-as ((c .opening2) .ensures) (record { is = λ base q nest loop. array-at _ _ _ _ (told _ _ _ _ _ ((c .before .before .before .before .before .before .before .before .before .before .before .before .before .before .next) .ensures) ((c .before .before .before .before .before .before .before .before .before .before .before .before .step) .given .1)) _ _ ((c .before .before .before .before .before .before .before .before .before .before .in-array) .ensures) ((c .before .before .before .before .before .before .before .before .enum-told10) .given .1) _ _ (span ((c .before .before .before .before .before .before .before .before .before .before .before .before .before .before .before .before .before .before .args) .head .start) ((c .before .before .before .before .before .before .before .before .before .before .before .before .before .before .before .before .before .before .args) .head .end)) nest loop ((c .before .before .before .before .before .before .before .before .before .before .before .before .before .before .before .before .before .before .args) .state) ∙ (first-items _ (missingComma (span ((c .before .before .before .before .before .before .before .before .before .before .before .before .before .before .before .before .before .before .args) .head .start) ((c .before .before .before .before .before .before .before .before .before .before .before .before .before .before .before .before .before .before .args) .head .end)) ((c .before .before .before .before .before .before .before .before .before .before .before .before .before .before .before .before .before .before .args) .state) ((c .before .before .before .before .before .before .before .before .before .before .before .before .step) .given .0 .0 .start) ((c .before .before .before .before .before .before .before .before .before .before .before .before .step) .given .0 .0 .end)) _ (bufs ((c .before .before .before .before .before .before .before .before .before .before .before .before .before .before .before .before .before .before .args) .events .now) ((c .before .before .before .before .before .before .before .before .before .before .before .before .before .before .before .before .before .before .args) .errors .now) ((c .before .before .before .before .before .before .before .before .before .before .before .before .before .before .before .before .before .before .args) .m)) _ ((c .before .before .before .before .before .missing-comma3) .ensures _)); good = (told _ _ _ _ _ ((c .before .before .before .before .before .before .before .before .before .before .before .before .before .before .next) .ensures) ((c .before .before .before .before .before .before .before .before .before .before .before .before .step) .given .1)) .good; on = omega (arith, (told _ _ _ _ _ ((c .before .before .before .before .before .before .before .before .before .before .before .before .before .before .next) .ensures) ((c .before .before .before .before .before .before .before .before .before .before .before .before .step) .given .1)) .on); base = (told _ _ _ _ _ ((c .before .before .before .before .before .before .before .before .before .before .before .before .before .before .next) .ensures) ((c .before .before .before .before .before .before .before .before .before .before .before .before .step) .given .1)) .base })
+returns-10 c = array-as ((c .opening2) .ensures) (record { is = λ base q nest loop. array-at _ _ _ _ (told _ _ _ _ _ ((c .before .before .before .before .before .before .before .before .before .before .before .before .before .before .next) .ensures) ((c .before .before .before .before .before .before .before .before .before .before .before .before .step) .given .1)) _ _ ((c .before .before .before .before .before .before .before .before .before .before .in-array) .ensures) ((c .before .before .before .before .before .before .before .before .enum-told10) .given .1) _ _ (span ((c .before .before .before .before .before .before .before .before .before .before .before .before .before .before .before .before .before .before .args) .head .start) ((c .before .before .before .before .before .before .before .before .before .before .before .before .before .before .before .before .before .before .args) .head .end)) nest loop ((c .before .before .before .before .before .before .before .before .before .before .before .before .before .before .before .before .before .before .args) .state) ∙ (first-items _ (missingComma (span ((c .before .before .before .before .before .before .before .before .before .before .before .before .before .before .before .before .before .before .args) .head .start) ((c .before .before .before .before .before .before .before .before .before .before .before .before .before .before .before .before .before .before .args) .head .end)) ((c .before .before .before .before .before .before .before .before .before .before .before .before .before .before .before .before .before .before .args) .state) ((c .before .before .before .before .before .before .before .before .before .before .before .before .step) .given .0 .0 .start) ((c .before .before .before .before .before .before .before .before .before .before .before .before .step) .given .0 .0 .end)) _ (bufs ((c .before .before .before .before .before .before .before .before .before .before .before .before .before .before .before .before .before .before .args) .events .now) ((c .before .before .before .before .before .before .before .before .before .before .before .before .before .before .before .before .before .before .args) .errors .now) ((c .before .before .before .before .before .before .before .before .before .before .before .before .before .before .before .before .before .before .args) .m)) _ ((c .before .before .before .before .before .missing-comma3) .ensures _)); good = (told _ _ _ _ _ ((c .before .before .before .before .before .before .before .before .before .before .before .before .before .before .next) .ensures) ((c .before .before .before .before .before .before .before .before .before .before .before .before .step) .given .1)) .good; on = omega (arith, (told _ _ _ _ _ ((c .before .before .before .before .before .before .before .before .before .before .before .before .before .before .next) .ensures) ((c .before .before .before .before .before .before .before .before .before .before .before .before .step) .given .1)) .on); base = (told _ _ _ _ _ ((c .before .before .before .before .before .before .before .before .before .before .before .before .before .before .next) .ensures) ((c .before .before .before .before .before .before .before .before .before .before .before .before .step) .given .1)) .base }) refl
 
 same-length-19 : tie.Need-same-length-19
 same-length-19 c = search needs
 
 returns-11 : tie.Need-returns-11
-returns-11 c = array-as ((c .over3) .ensures) (record { is = λ base q nest loop. array-at _ _ _ _ (told _ _ _ _ _ ((c .before .before .before .before .before .before .before .before .before .before .before .next) .ensures) ((c .before .before .before .before .before .before .before .before .before .step) .given .1)) _ _ ((c .before .before .before .before .before .before .before .in-array) .ensures) ((c .before .before .before .before .before .enum-told11) .given .1) _ _ (span ((c .before .before .before .before .before .before .before .before .before .before .before .before .before .before .before .args) .head .start) ((c .before .before .before .before .before .before .before .before .before .before .before .before .before .before .before .args) .head .end)) nest loop ((c .before .before .before .before .before .before .before .before .before .before .before .before .before .before .before .args) .state) ∙ ((first-item _ _ _ _ _ (c .before .before .before .emit7 .ensures _ _))); good = (told _ _ _ _ _ ((c .before .before .before .before .before .before .before .before .before .before .before .next) .ensures) ((c .before .before .before .before .before .before .before .before .before .step) .given .1)) .good; on = omega (arith, (told _ _ _ _ _ ((c .before .before .before .before .before .before .before .before .before .before .before .next) .ensures) ((c .before .before .before .before .before .before .before .before .before .step) .given .1)) .on); base = (told _ _ _ _ _ ((c .before .before .before .before .before .before .before .before .before .before .before .next) .ensures) ((c .before .before .before .before .before .before .before .before .before .step) .given .1)) .base })
+returns-11 c = array-as ((c .over3) .ensures) (record { is = λ base q nest loop. array-at _ _ _ _ (told _ _ _ _ _ ((c .before .before .before .before .before .before .before .before .before .before .before .next) .ensures) ((c .before .before .before .before .before .before .before .before .before .step) .given .1)) _ _ ((c .before .before .before .before .before .before .before .in-array) .ensures) ((c .before .before .before .before .before .enum-told11) .given .1) _ _ (span ((c .before .before .before .before .before .before .before .before .before .before .before .before .before .before .before .args) .head .start) ((c .before .before .before .before .before .before .before .before .before .before .before .before .before .before .before .args) .head .end)) nest loop ((c .before .before .before .before .before .before .before .before .before .before .before .before .before .before .before .args) .state) ∙ ((first-item _ _ _ _ _ (c .before .before .before .emit7 .ensures _ _))); good = (told _ _ _ _ _ ((c .before .before .before .before .before .before .before .before .before .before .before .next) .ensures) ((c .before .before .before .before .before .before .before .before .before .step) .given .1)) .good; on = omega (arith, (told _ _ _ _ _ ((c .before .before .before .before .before .before .before .before .before .before .before .next) .ensures) ((c .before .before .before .before .before .before .before .before .before .step) .given .1)) .on); base = (told _ _ _ _ _ ((c .before .before .before .before .before .before .before .before .before .before .before .next) .ensures) ((c .before .before .before .before .before .before .before .before .before .step) .given .1)) .base }) tt
 
 same-length-20 : tie.Need-same-length-20
 same-length-20 c = search needs
@@ -264,7 +264,7 @@ returns-12 c =
       good = (c .before .before .before .before .before .on-scalar) .ensures .good;
       on = omega (arith, (told _ _ _ _ _ ((c .before .before .before .before .before .before .before .before .before .before .before .before .before .before .before .before .before .before .before .before .before .next) .ensures) ((c .before .before .before .before .before .before .before .before .before .before .before .before .before .before .before .before .before .before .before .step) .given .1)) .on, (c .before .before .before .before .before .on-scalar) .ensures .on);
       base = (c .before .before .before .before .before .on-scalar) .ensures .base ∙ (told _ _ _ _ _ ((c .before .before .before .before .before .before .before .before .before .before .before .before .before .before .before .before .before .before .before .before .before .next) .ensures) ((c .before .before .before .before .before .before .before .before .before .before .before .before .before .before .before .before .before .before .before .step) .given .1)) .base;
-    })
+    }) tt
 
 pub array-turn-spec : {M : Type 1} → statement M
 array-turn-spec =

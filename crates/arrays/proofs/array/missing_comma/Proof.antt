@@ -1,6 +1,5 @@
 -- By the state.
 -- Made by ./proofs from Proof.tmpl: change that.
-use mathlib.Core.Path.{_≡_, refl}
 use borrow.Author.Needs.{needs}
 use Rattle.arrays.proofs.array.missing_comma.Statement.{statement}
 use Rattle.arrays.proofs.array.missing_comma.Tie as tie

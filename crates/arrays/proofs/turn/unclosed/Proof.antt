@@ -1,6 +1,6 @@
 -- The nearest significant token, or 0..0: the list is exhausted, so it is one of the whole list.
 -- Made by ./proofs from Proof.tmpl: change that.
-use mathlib.Core.Path.{_≡_, refl, ap, sym, _∙_}
+use mathlib.Core.Path.{refl, ap, _∙_}
 use Rattle.token.specs.Tokens.{allTokens}
 use Rattle.token.specs.Spans.{spanAfter}
 use Rattle.output.specs.Pour.{put}

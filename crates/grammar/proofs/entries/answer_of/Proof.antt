@@ -1,6 +1,5 @@
 -- By the tests in their order.
 -- Made by ./proofs from Proof.tmpl: change that.
-use mathlib.Core.Path.{_≡_, refl}
 use borrow.Author.Tests.{lt-ltb, le-ltb}
 use borrow.Author.Needs.{needs}
 use Rattle.grammar.proofs.entries.answer_of.Statement.{statement}

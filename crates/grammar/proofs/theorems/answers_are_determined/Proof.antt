@@ -1,5 +1,5 @@
 -- Both are the rules' answer.
-use mathlib.Core.Path.{_≡_, sym, _∙_}
+use mathlib.Core.Path.{sym, _∙_}
 use Rattle.grammar.proofs.theorems.answers_are_determined.Statement.{statement}
 use Rattle.grammar.proofs.theorems.answers_are_determined.Tie as tie
 

@@ -1,6 +1,6 @@
 -- One answer an action: the rule at the token, what was emitted, and what is next.
 -- Made by ./proofs from Proof.tmpl: change that.
-use mathlib.Core.Path.{_≡_, refl, sym, _∙_}
+use mathlib.Core.Path.{refl, _∙_}
 use mathlib.Core.Bool.{false}
 use native.Mathlib.Omega.{arith}
 use Rattle.token.specs.Tokens.{tokensAt}
@@ -18,7 +18,7 @@ use Rattle.inline.proofs.inline_table.inline_table_turn.Statement.{stat
 use Rattle.inline.proofs.inline_table.inline_table_turn.Tie as tie
 
 next-requires : tie.Need-next-requires
-next-requires c κs = (c .before .before .before .pre)
+next-requires c κs = (c .before .before .before .pre) .0
 
 enum-known-step : tie.Need-enum-known-step
 enum-known-step c = search needs
@@ -27,7 +27,7 @@ enum-told : tie.Need-enum-told
 enum-told c = search needs
 
 unclosed-requires : tie.Need-unclosed-requires
-unclosed-requires c κs = ((c .before .before .before .before .before .before .before .before .pre), (told-done _ _ _ ((c .before .before .before .before .next) .ensures) ((c .before .before .enum-told) .given .1)))
+unclosed-requires c κs = ((c .before .before .before .before .before .before .before .before .pre) .0, (told-done _ _ _ ((c .before .before .before .before .next) .ensures) ((c .before .before .enum-told) .given .1)))
 
 over-requires : tie.Need-over-requires
 over-requires c κs = search needs
@@ -42,13 +42,13 @@ returns : tie.Need-returns
 returns c =
     table-as ((c .over) .ensures) (record {
       is = λ base q nest loop. at-end _ _ _ _ (inlineTableTurn (span ((c .before .before .before .before .before .before .before .before .before .before .before .before .before .before .args) .head .start) ((c .before .before .before .before .before .before .before .before .before .before .before .before .before .before .args) .head .end)) nest loop ((c .before .before .before .before .before .before .before .before .before .before .before .before .before .before .args) .p)) (λ ts. unclosedItems message.unclosedInlineTable expected.closeCurly (span ((c .before .before .before .before .before .before .before .before .before .before .before .before .before .before .args) .head .start) ((c .before .before .before .before .before .before .before .before .before .before .before .before .before .before .args) .head .end)) ▸ done ts) (told-done _ _ _ ((c .before .before .before .before .before .before .before .before .before .before .next) .ensures) ((c .before .before .before .before .before .before .before .before .enum-told) .given .1)) refl ∙ first-items _ (unclosedItems message.unclosedInlineTable expected.closeCurly (span ((c .before .before .before .before .before .before .before .before .before .before .before .before .before .before .args) .head .start) ((c .before .before .before .before .before .before .before .before .before .before .before .before .before .before .args) .head .end))) _ (bufs ((c .before .before .before .before .before .before .before .before .before .before .before .before .before .before .args) .events .now) ((c .before .before .before .before .before .before .before .before .before .before .before .before .before .before .args) .errors .now) ((c .before .before .before .before .before .before .before .before .before .before .before .before .before .before .args) .m)) _ ((c .before .before .before .before .before .unclosed) .ensures base q);
-      good = (c .before .before .before .before .before .before .before .before .before .before .before .before .before .before .pre);
+      good = (c .before .before .before .before .before .before .before .before .before .before .before .before .before .before .pre) .0;
       on = omega arith;
       base = refl;
     })
 
 action-at-requires : tie.Need-action-at-requires
-action-at-requires c κs = search needs
+action-at-requires c κs = (c .before .before .before .before .before .before .before .pre) .1
 
 enum-told-2 : tie.Need-enum-told-2
 enum-told-2 c = search needs
@@ -267,7 +267,7 @@ enum-told-23 : tie.Need-enum-told-23
 enum-told-23 c = search needs
 
 table-dot-requires : tie.Need-table-dot-requires
-table-dot-requires c κs = ((told _ _ _ _ _ ((c .before .before .before .before .before .before .before .before .next) .ensures) ((c .before .before .before .before .before .before .step) .given .1)) .good, record { from = (c .before .before .before .before .before .before .before .before .before .before .before .before .args) .c; good = (c .before .before .before .before .before .before .before .before .before .before .before .before .pre); took = (told _ _ _ _ _ ((c .before .before .before .before .before .before .before .before .next) .ensures) ((c .before .before .before .before .before .before .step) .given .1)); dot = (action-tells ((c .before .before .before .before .before .before .before .before .before .before .before .before .args) .p .state) ((c .before .before .before .before .before .before .step) .given .0 .0 .kind) _ _ ((c .before .before .before .before .action-at) .ensures) ((c .before .before .enum-told23) .given .1)) })
+table-dot-requires c κs = ((told _ _ _ _ _ ((c .before .before .before .before .before .before .before .before .next) .ensures) ((c .before .before .before .before .before .before .step) .given .1)) .good, record { from = (c .before .before .before .before .before .before .before .before .before .before .before .before .args) .c; good = (c .before .before .before .before .before .before .before .before .before .before .before .before .pre) .0; took = (told _ _ _ _ _ ((c .before .before .before .before .before .before .before .before .next) .ensures) ((c .before .before .before .before .before .before .step) .given .1)); dot = (action-tells ((c .before .before .before .before .before .before .before .before .before .before .before .before .args) .p .state) ((c .before .before .before .before .before .before .step) .given .0 .0 .kind) _ _ ((c .before .before .before .before .action-at) .ensures) ((c .before .before .enum-told23) .given .1)) })
 
 read-requires-7 : tie.Need-read-requires-7
 read-requires-7 c κs = search needs
@@ -291,7 +291,7 @@ missing-requires-5 : tie.Need-missing-requires-5
 missing-requires-5 c κs = search needs
 
 table-dot-requires-2 : tie.Need-table-dot-requires-2
-table-dot-requires-2 c κs = ((told _ _ _ _ _ ((c .before .before .before .before .before .before .before .before .before .before .before .before .next) .ensures) ((c .before .before .before .before .before .before .before .before .before .before .step) .given .1)) .good, record { from = (c .before .before .before .before .before .before .before .before .before .before .before .before .before .before .before .before .args) .c; good = (c .before .before .before .before .before .before .before .before .before .before .before .before .before .before .before .before .pre); took = (told _ _ _ _ _ ((c .before .before .before .before .before .before .before .before .before .before .before .before .next) .ensures) ((c .before .before .before .before .before .before .before .before .before .before .step) .given .1)); dot = (action-tells ((c .before .before .before .before .before .before .before .before .before .before .before .before .before .before .before .before .args) .p .state) ((c .before .before .before .before .before .before .before .before .before .before .step) .given .0 .0 .kind) _ _ ((c .before .before .before .before .before .before .before .before .action-at) .ensures) ((c .before .before .before .before .before .before .enum-told25) .given .1)) })
+table-dot-requires-2 c κs = ((told _ _ _ _ _ ((c .before .before .before .before .before .before .before .before .before .before .before .before .next) .ensures) ((c .before .before .before .before .before .before .before .before .before .before .step) .given .1)) .good, record { from = (c .before .before .before .before .before .before .before .before .before .before .before .before .before .before .before .before .args) .c; good = (c .before .before .before .before .before .before .before .before .before .before .before .before .before .before .before .before .pre) .0; took = (told _ _ _ _ _ ((c .before .before .before .before .before .before .before .before .before .before .before .before .next) .ensures) ((c .before .before .before .before .before .before .before .before .before .before .step) .given .1)); dot = (action-tells ((c .before .before .before .before .before .before .before .before .before .before .before .before .before .before .before .before .args) .p .state) ((c .before .before .before .before .before .before .before .before .before .before .step) .given .0 .0 .kind) _ _ ((c .before .before .before .before .before .before .before .before .action-at) .ensures) ((c .before .before .before .before .before .before .enum-told25) .given .1)) })
 
 read-requires-9 : tie.Need-read-requires-9
 read-requires-9 c κs = search needs

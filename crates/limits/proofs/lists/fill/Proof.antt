@@ -1,6 +1,5 @@
 -- The loop runs over the records that are asked for. Assumes nothing.
 -- Made by ./proofs from Proof.tmpl: change that.
-use native.Mathlib.Omega.{arith}
 use Prim.Native.Nat.{_-_}
 use mathlib.Core.Path.{_≡_}
 use lib.ListN.{length}

@@ -1,6 +1,5 @@
 -- A report, and an error event.
 -- Made by ./proofs from Proof.tmpl: change that.
-use mathlib.Core.Path.{_≡_, refl}
 use borrow.Author.Needs.{needs}
 use Rattle.lines.proofs.skipping.content_after_comment.Statement.{statement}
 use Rattle.lines.proofs.skipping.content_after_comment.Tie as tie

@@ -1,7 +1,6 @@
 -- By the kind, and by whether a comment was read; what is to come from here gives what was to come from the start.
 -- Made by ./proofs from Proof.tmpl: change that.
-use mathlib.Core.Path.{_≡_, refl, sym, _∙_}
-use mathlib.Core.Bool.{true, false}
+use mathlib.Core.Path.{_≡_, refl, _∙_}
 use native.Mathlib.Omega.{arith}
 use Prim.Native.Nat.{_-_}
 use lib.ListN.{length}
@@ -9,9 +8,7 @@ use Rattle.token.specs.Records.{count}
 use Rattle.token.specs.Tokens.{tokensAt}
 use Rattle.output.specs.Pour.{bufs}
 use Rattle.output.specs.WalkLaws.{Looped, begun, again, finish, first-item, first-items, run-done, told, told-done}
-use Rattle.rules.specs.Out.{done}
 use Rattle.lines.specs.LineEnd.{lineEnd, contentAfterComment}
-use Rattle.output.specs.WalkLaws.{by-rule, rule-end}
 use Rattle.lines.proofs.SkippingLaws.{line-at, line-none}
 use borrow.Author.Needs.{needs}
 use Rattle.lines.proofs.skipping.to_line_end.Statement.{statement}

@@ -1,10 +1,9 @@
 -- The two loops that open one another, by the levels still allowed.
 -- Made by ./proofs from Proof.tmpl: change that.
-use mathlib.Core.Path.{_≡_, refl, sym, _∙_}
-use mathlib.Core.Bool.{true, false}
+use mathlib.Core.Path.{_≡_, refl, _∙_}
 use native.Mathlib.Omega.{arith}
-use Prim.Native.Nat.{ℕ, _<_, _-_}
-use lib.ListN.{length}
+use Prim.Native.Nat.{ℕ, _<_, _≤_, _+_, _-_}
+use lib.ListN.{length, length-set}
 use Rattle.token.specs.Records.{count}
 use Rattle.token.specs.Tokens.{tokensAt}
 use Rattle.rules.specs.declared.skipping.Bracket.{Bracket}
@@ -15,7 +14,9 @@ use Rattle.rules.specs.InlineTable.{inlineTableTurn}
 use Rattle.rules.specs.Nest.{onOpen}
 use Rattle.output.specs.Pour.{bufs}
 use Rattle.output.specs.TurnLaws.{Turns, turns-begun}
+use Rattle.pairs.specs.Parts.{actionTable}
 use Rattle.nest.specs.NestedLaws.{nested-item, nested-as}
+use Rattle.nest.proofs.StackLaws.{Stacked, stack-begun, stack-moved, stack-over-moved, stack-array-moved, stack-table-moved, stack-next, stack-over, stack-pop, stack-push, stack-none, stack-array-again, stack-array-stop, stack-table-again, stack-table-stop}
 use Rattle.nest.proofs.NestLaws.{turn-moved, turn-next, turn-over, array-moved, table-moved, array-again, array-stop, table-again, table-stop, open-array, open-table, no-level}
 use borrow.Author.Needs.{needs}
 use borrow.Fn.Kinds.{In}
@@ -26,9 +27,10 @@ use Rattle.nest.proofs.nest.+on_array_open+on_inline_table_open.Lts-on_
 use Rattle.nest.proofs.nest.on_inline_table_open.Reads as on-inline-table-open
 use Rattle.nest.proofs.nest.on_inline_table_open.Kinds as on-inline-table-open-kinds
 use Rattle.nest.proofs.nest.+on_array_open+on_inline_table_open.Lts-on_inline_table_open as on-inline-table-open-lts
-use Rattle.output.proofs.emitting.emit.Reads as emit-reads
-use Rattle.arrays.proofs.array.array_turn.Reads as array-turn-reads
 use Rattle.inline.proofs.inline_table.inline_table_turn.Reads as inline-table-turn-reads
+use Rattle.nest.proofs.turns.array_turns.Reads as array-turns-reads
+use Rattle.output.proofs.emitting.emit.Reads as emit-reads
+use Rattle.pairs.proofs.actions.action_table.Reads as action-table-reads
 use Rattle.nest.proofs.nest.+on_array_open+on_inline_table_open.{statement}
 use Rattle.nest.proofs.nest.+on_array_open+on_inline_table_open.Tie.{close}
 
@@ -67,18 +69,18 @@ on-inline-table-open-below t =
     on-inline-table-open.Pre
 
 abbrev on-array-open-Inv-loop : on-array-open-lts.InvT-loop
-on-array-open-Inv-loop s head levels events₀ errors₀ n₀ cur₀ state₀ events errors n cur state =
-    Turns s (λ k. turns (arrayTurn (span (head .start) (head .end)) (onOpen (levels - 1))) k state (tokensAt s cur)) (looping (arrayTurn (span (head .start) (head .end)) (onOpen (levels - 1))) state₀ (tokensAt s cur₀)) (bufs events errors n) (bufs events₀ errors₀ n₀) cur cur₀
-    × (length events ≡ length events₀) × (length errors ≡ length errors₀)
+on-array-open-Inv-loop s levels events₀ errors₀ n₀ cur₀ state₀ left₀ inner₀ starts₀ ends₀ depth₀ events errors n cur state left inner starts ends depth =
+    Stacked s levels (looping (arrayTurn (span (inner₀ .start) (inner₀ .end)) (onOpen left₀)) state₀ (tokensAt s cur₀)) (bufs events₀ errors₀ n₀) cur₀ starts ends depth left (inner .start) (inner .end) state (bufs events errors n) cur
+    × (length starts ≡ 16) × (length ends ≡ 16) × (length events ≡ length events₀) × (length errors ≡ length errors₀) × (depth ≤ 16)
 
 abbrev on-array-open-μ-loop : on-array-open-lts.MeasureT-loop
-on-array-open-μ-loop s head levels events₀ errors₀ n₀ cur₀ state₀ events errors n cur state = count s - cur .at
+on-array-open-μ-loop s levels events₀ errors₀ n₀ cur₀ state₀ left₀ inner₀ starts₀ ends₀ depth₀ events errors n cur state left inner starts ends depth = (count s - cur .at) + (count s - cur .at) + depth
 
 on-array-open-returns : (t : ℕ) → on-array-open-lts.Need-returns (
   emit-reads.Asked,
   emit-reads.Learnt,
-  array-turn-reads.Asked,
-  array-turn-reads.Learnt,
+  array-turns-reads.Asked,
+  array-turns-reads.Learnt,
   on-array-open-below t,
   on-array-open.Post,
   on-inline-table-open-below t,
@@ -89,8 +91,8 @@ on-array-open-returns t c = no-level ((c .before .before .before .before .args) 
 on-array-open-emit-requires : (t : ℕ) → on-array-open-lts.Need-emit-requires (
   emit-reads.Asked,
   emit-reads.Learnt,
-  array-turn-reads.Asked,
-  array-turn-reads.Learnt,
+  array-turns-reads.Asked,
+  array-turns-reads.Learnt,
   on-array-open-below t,
   on-array-open.Post,
   on-inline-table-open-below t,
@@ -98,35 +100,47 @@ on-array-open-emit-requires : (t : ℕ) → on-array-open-lts.Need-emit-requires
 ) (on-array-open-at t) on-array-open.Post on-array-open-Inv-loop on-array-open-μ-loop
 on-array-open-emit-requires t c κs = search needs
 
+on-array-open-sub-left : (t : ℕ) → on-array-open-lts.Need-sub-left (
+  emit-reads.Asked,
+  emit-reads.Learnt,
+  array-turns-reads.Asked,
+  array-turns-reads.Learnt,
+  on-array-open-below t,
+  on-array-open.Post,
+  on-inline-table-open-below t,
+  on-inline-table-open.Post,
+) (on-array-open-at t) on-array-open.Post on-array-open-Inv-loop on-array-open-μ-loop
+on-array-open-sub-left t c = omega (arith, (c .before .before .before .before .if1) .left)
+
 on-array-open-loop-holds : (t : ℕ) → on-array-open-lts.Need-loop-holds (
   emit-reads.Asked,
   emit-reads.Learnt,
-  array-turn-reads.Asked,
-  array-turn-reads.Learnt,
+  array-turns-reads.Asked,
+  array-turns-reads.Learnt,
   on-array-open-below t,
   on-array-open.Post,
   on-inline-table-open-below t,
   on-inline-table-open.Post,
 ) (on-array-open-at t) on-array-open.Post on-array-open-Inv-loop on-array-open-μ-loop
-on-array-open-loop-holds t c = (turns-begun _ _ _ _ ((c .before .before .before .before .before .before .before .before .pre) .1), refl, refl)
+on-array-open-loop-holds t c = (stack-begun _ _ _ _ _ _ _ _ _ ((c .before .before .before .before .if1) .left) ((c .before .before .before .before .before .before .before .before .pre) .1), refl, refl, refl, refl, omega arith)
 
-on-array-open-array-turn-requires : (t : ℕ) → on-array-open-lts.Need-array-turn-requires (
+on-array-open-array-turns-requires : (t : ℕ) → on-array-open-lts.Need-array-turns-requires (
   emit-reads.Asked,
   emit-reads.Learnt,
-  array-turn-reads.Asked,
-  array-turn-reads.Learnt,
+  array-turns-reads.Asked,
+  array-turns-reads.Learnt,
   on-array-open-below t,
   on-array-open.Post,
   on-inline-table-open-below t,
   on-inline-table-open.Post,
 ) (on-array-open-at t) on-array-open.Post on-array-open-Inv-loop on-array-open-μ-loop
-on-array-open-array-turn-requires t c κs = ((c .before .before .loop) .inv .0) .good
+on-array-open-array-turns-requires t c κs = ((c .before .before .loop) .inv .0) .good
 
 on-array-open-enum-told : (t : ℕ) → on-array-open-lts.Need-enum-told (
   emit-reads.Asked,
   emit-reads.Learnt,
-  array-turn-reads.Asked,
-  array-turn-reads.Learnt,
+  array-turns-reads.Asked,
+  array-turns-reads.Learnt,
   on-array-open-below t,
   on-array-open.Post,
   on-inline-table-open-below t,
@@ -137,32 +151,32 @@ on-array-open-enum-told t c = search needs
 on-array-open-loop-less : (t : ℕ) → on-array-open-lts.Need-loop-less (
   emit-reads.Asked,
   emit-reads.Learnt,
-  array-turn-reads.Asked,
-  array-turn-reads.Learnt,
+  array-turns-reads.Asked,
+  array-turns-reads.Learnt,
   on-array-open-below t,
   on-array-open.Post,
   on-inline-table-open-below t,
   on-inline-table-open.Post,
 ) (on-array-open-at t) on-array-open.Post on-array-open-Inv-loop on-array-open-μ-loop
-on-array-open-loop-less t c = omega (arith, turn-moved (onOpen ((c .before .before .before .before .before .before .before .before .before .before .before .before .before .before .before .before .before .before .before .before .args) .levels - 1)) (λ nest. arrayTurn (span ((c .before .before .before .before .before .before .before .before .before .before .before .before .before .before .before .before .before .before .before .before .args) .head .start) ((c .before .before .before .before .before .before .before .before .before .before .before .before .before .before .before .before .before .before .before .before .args) .head .end)) nest) (λ f g w. refl) ((c .before .before .before .before .before .before .before .before .before .before .before .loop) .state) ((c .before .before .before .before .before .before .before .before .before .before .before .loop) .inv .0) ((c .before .before .before .before .before .before .before .before .array-turn) .result .state) ((c .before .before .before .before .before .before .before .before .array-turn) .ensures) ((c .enum-told) .given .1), (c .before .before .before .before .before .before .before .before .array-turn) .ensures .good .low)
+on-array-open-loop-less t c = omega (arith, stack-moved ((c .before .before .before .before .before .before .before .before .before .before .before .loop) .inv .0) _ ((c .before .before .before .before .before .before .before .before .array-turns) .ensures) ((c .enum-told) .given .1), (c .before .before .before .before .before .before .before .before .array-turns) .ensures .good .low)
 
 on-array-open-loop-again : (t : ℕ) → on-array-open-lts.Need-loop-again (
   emit-reads.Asked,
   emit-reads.Learnt,
-  array-turn-reads.Asked,
-  array-turn-reads.Learnt,
+  array-turns-reads.Asked,
+  array-turns-reads.Learnt,
   on-array-open-below t,
   on-array-open.Post,
   on-inline-table-open-below t,
   on-inline-table-open.Post,
 ) (on-array-open-at t) on-array-open.Post on-array-open-Inv-loop on-array-open-μ-loop
-on-array-open-loop-again t c = (turn-next (onOpen ((c .before .before .before .before .before .before .before .before .before .before .before .before .before .before .before .before .before .before .before .before .args) .levels - 1)) (λ nest. arrayTurn (span ((c .before .before .before .before .before .before .before .before .before .before .before .before .before .before .before .before .before .before .before .before .args) .head .start) ((c .before .before .before .before .before .before .before .before .before .before .before .before .before .before .before .before .before .before .before .before .args) .head .end)) nest) (λ f g w. refl) ((c .before .before .before .before .before .before .before .before .before .before .before .loop) .state) ((c .before .before .before .before .before .before .before .before .before .before .before .loop) .inv .0) ((c .before .before .before .before .before .before .before .before .array-turn) .result .state) ((c .before .before .before .before .before .before .before .before .array-turn) .ensures) ((c .enum-told) .given .1), ((c .before .before .before .before .before .before .before .before .array-turn .kept .1 .1 .1 .1 .1 .0)) ∙ (c .before .before .before .before .before .before .before .before .before .before .before .loop) .inv .1, ((c .before .before .before .before .before .before .before .before .array-turn .kept .1 .1 .1 .1 .1 .1 .0)) ∙ (c .before .before .before .before .before .before .before .before .before .before .before .loop) .inv .2)
+on-array-open-loop-again t c = (stack-next ((c .before .before .before .before .before .before .before .before .before .before .before .loop) .inv .0) _ ((c .before .before .before .before .before .before .before .before .array-turns) .ensures) ((c .enum-told) .given .1), (c .before .before .before .before .before .before .before .before .before .before .before .loop) .inv .1, (c .before .before .before .before .before .before .before .before .before .before .before .loop) .inv .2, ((c .before .before .before .before .before .before .before .before .array-turns .kept .1 .1 .1 .1 .1 .0)) ∙ (c .before .before .before .before .before .before .before .before .before .before .before .loop) .inv .3, ((c .before .before .before .before .before .before .before .before .array-turns .kept .1 .1 .1 .1 .1 .1 .0)) ∙ (c .before .before .before .before .before .before .before .before .before .before .before .loop) .inv .4, omega (arith, (c .before .before .before .before .before .before .before .before .before .before .before .loop) .inv .5))
 
 on-array-open-enum-told-2 : (t : ℕ) → on-array-open-lts.Need-enum-told-2 (
   emit-reads.Asked,
   emit-reads.Learnt,
-  array-turn-reads.Asked,
-  array-turn-reads.Learnt,
+  array-turns-reads.Asked,
+  array-turns-reads.Learnt,
   on-array-open-below t,
   on-array-open.Post,
   on-inline-table-open-below t,
@@ -173,44 +187,140 @@ on-array-open-enum-told-2 t c = search needs
 on-array-open-same-length : (t : ℕ) → on-array-open-lts.Need-same-length (
   emit-reads.Asked,
   emit-reads.Learnt,
-  array-turn-reads.Asked,
-  array-turn-reads.Learnt,
+  array-turns-reads.Asked,
+  array-turns-reads.Learnt,
   on-array-open-below t,
   on-array-open.Post,
   on-inline-table-open-below t,
   on-inline-table-open.Post,
 ) (on-array-open-at t) on-array-open.Post on-array-open-Inv-loop on-array-open-μ-loop
-on-array-open-same-length t c = ((c .before .before .before .before .before .before .before .before .array-turn .kept .1 .1 .1 .1 .1 .0)) ∙ (c .before .before .before .before .before .before .before .before .before .before .before .loop) .inv .1 ∙ (c .before .before .before .before .before .before .before .before .before .before .before .before .before .before .emit) .kept .0
+on-array-open-same-length t c = ((c .before .before .before .before .before .before .before .before .before .array-turns .kept .1 .1 .1 .1 .1 .0)) ∙ (c .before .before .before .before .before .before .before .before .before .before .before .before .loop) .inv .3 ∙ (c .before .before .before .before .before .before .before .before .before .before .before .before .before .before .before .emit) .kept .0
 
 on-array-open-same-length-2 : (t : ℕ) → on-array-open-lts.Need-same-length-2 (
   emit-reads.Asked,
   emit-reads.Learnt,
-  array-turn-reads.Asked,
-  array-turn-reads.Learnt,
+  array-turns-reads.Asked,
+  array-turns-reads.Learnt,
   on-array-open-below t,
   on-array-open.Post,
   on-inline-table-open-below t,
   on-inline-table-open.Post,
 ) (on-array-open-at t) on-array-open.Post on-array-open-Inv-loop on-array-open-μ-loop
-on-array-open-same-length-2 t c = ((c .before .before .before .before .before .before .before .before .array-turn .kept .1 .1 .1 .1 .1 .1 .0)) ∙ (c .before .before .before .before .before .before .before .before .before .before .before .loop) .inv .2
+on-array-open-same-length-2 t c = ((c .before .before .before .before .before .before .before .before .before .array-turns .kept .1 .1 .1 .1 .1 .1 .0)) ∙ (c .before .before .before .before .before .before .before .before .before .before .before .before .loop) .inv .4
 
 on-array-open-returns-2 : (t : ℕ) → on-array-open-lts.Need-returns-2 (
   emit-reads.Asked,
   emit-reads.Learnt,
-  array-turn-reads.Asked,
-  array-turn-reads.Learnt,
+  array-turns-reads.Asked,
+  array-turns-reads.Learnt,
   on-array-open-below t,
   on-array-open.Post,
   on-inline-table-open-below t,
   on-inline-table-open.Post,
 ) (on-array-open-at t) on-array-open.Post on-array-open-Inv-loop on-array-open-μ-loop
-on-array-open-returns-2 t c = nested-as (open-array ((c .before .before .before .before .before .before .before .before .before .before .before .before .before .before .before .before .before .before .before .before .args) .levels) _ _ _ ((c .before .before .before .before .before .before .before .before .before .before .before .before .before .before .before .before .if1) .left)) (nested-item _ _ (λ all. (c .before .before .before .before .before .before .before .before .before .before .before .before .before .before .emit) .ensures all _) (turn-over (onOpen ((c .before .before .before .before .before .before .before .before .before .before .before .before .before .before .before .before .before .before .before .before .args) .levels - 1)) (λ nest. arrayTurn (span ((c .before .before .before .before .before .before .before .before .before .before .before .before .before .before .before .before .before .before .before .before .args) .head .start) ((c .before .before .before .before .before .before .before .before .before .before .before .before .before .before .before .before .before .before .before .before .args) .head .end)) nest) (λ f g w. refl) ((c .before .before .before .before .before .before .before .before .before .before .before .loop) .state) ((c .before .before .before .before .before .before .before .before .before .before .before .loop) .inv .0) ((c .before .before .before .before .before .before .before .before .array-turn) .result .state) ((c .before .before .before .before .before .before .before .before .array-turn) .ensures) ((c .enum-told2) .given .1)))
+on-array-open-returns-2 t c = nested-as (open-array ((c .before .before .before .before .before .before .before .before .before .before .before .before .before .before .before .before .before .before .before .before .before .args) .levels) _ _ _ ((c .before .before .before .before .before .before .before .before .before .before .before .before .before .before .before .before .before .if1) .left)) (nested-item _ _ (λ all. (c .before .before .before .before .before .before .before .before .before .before .before .before .before .before .before .emit) .ensures all _) (stack-over ((c .before .before .before .before .before .before .before .before .before .before .before .before .loop) .inv .0) _ ((c .before .before .before .before .before .before .before .before .before .array-turns) .ensures) ((c .before .enum-told2) .given .1) ((c .if2) .taken)))
+
+on-array-open-sub-depth : (t : ℕ) → on-array-open-lts.Need-sub-depth (
+  emit-reads.Asked,
+  emit-reads.Learnt,
+  array-turns-reads.Asked,
+  array-turns-reads.Learnt,
+  on-array-open-below t,
+  on-array-open.Post,
+  on-inline-table-open-below t,
+  on-inline-table-open.Post,
+) (on-array-open-at t) on-array-open.Post on-array-open-Inv-loop on-array-open-μ-loop
+on-array-open-sub-depth t c = omega (arith, (c .if2) .left)
+
+on-array-open-add-left : (t : ℕ) → on-array-open-lts.Need-add-left (
+  emit-reads.Asked,
+  emit-reads.Learnt,
+  array-turns-reads.Asked,
+  array-turns-reads.Learnt,
+  on-array-open-below t,
+  on-array-open.Post,
+  on-inline-table-open-below t,
+  on-inline-table-open.Post,
+) (on-array-open-at t) on-array-open.Post on-array-open-Inv-loop on-array-open-μ-loop
+on-array-open-add-left t c = record { fits = omega (arith, ((c .before .before .before .before .before .before .before .before .before .before .before .before .loop) .inv .0) .sum, (c .before .before .before .before .before .before .before .before .before .before .before .before .before .before .before .before .before .before .before .before .before .fits) .levels .fits) }
+
+on-array-open-mul-t40 : (t : ℕ) → on-array-open-lts.Need-mul-t40 (
+  emit-reads.Asked,
+  emit-reads.Learnt,
+  array-turns-reads.Asked,
+  array-turns-reads.Learnt,
+  on-array-open-below t,
+  on-array-open.Post,
+  on-inline-table-open-below t,
+  on-inline-table-open.Post,
+) (on-array-open-at t) on-array-open.Post on-array-open-Inv-loop on-array-open-μ-loop
+on-array-open-mul-t40 t c = record { fits = omega (arith, (c .before .before .before .before .before .before .before .before .before .before .before .before .loop) .inv .5) }
+
+on-array-open-array-read-t43 : (t : ℕ) → on-array-open-lts.Need-array-read-t43 (
+  emit-reads.Asked,
+  emit-reads.Learnt,
+  array-turns-reads.Asked,
+  array-turns-reads.Learnt,
+  on-array-open-below t,
+  on-array-open.Post,
+  on-inline-table-open-below t,
+  on-inline-table-open.Post,
+) (on-array-open-at t) on-array-open.Post on-array-open-Inv-loop on-array-open-μ-loop
+on-array-open-array-read-t43 t c = omega (arith, (c .before .before .before .before .before .before .before .before .before .before .before .before .loop) .inv .5, (c .if2) .left)
+
+on-array-open-mul-t44 : (t : ℕ) → on-array-open-lts.Need-mul-t44 (
+  emit-reads.Asked,
+  emit-reads.Learnt,
+  array-turns-reads.Asked,
+  array-turns-reads.Learnt,
+  on-array-open-below t,
+  on-array-open.Post,
+  on-inline-table-open-below t,
+  on-inline-table-open.Post,
+) (on-array-open-at t) on-array-open.Post on-array-open-Inv-loop on-array-open-μ-loop
+on-array-open-mul-t44 t c = record { fits = omega (arith, (c .before .before .before .before .before .before .before .before .before .before .before .before .loop) .inv .5) }
+
+on-array-open-array-read-t47 : (t : ℕ) → on-array-open-lts.Need-array-read-t47 (
+  emit-reads.Asked,
+  emit-reads.Learnt,
+  array-turns-reads.Asked,
+  array-turns-reads.Learnt,
+  on-array-open-below t,
+  on-array-open.Post,
+  on-inline-table-open-below t,
+  on-inline-table-open.Post,
+) (on-array-open-at t) on-array-open.Post on-array-open-Inv-loop on-array-open-μ-loop
+on-array-open-array-read-t47 t c = omega (arith, (c .before .before .before .before .before .before .before .before .before .before .before .before .loop) .inv .5, (c .if2) .left)
+
+on-array-open-loop-less-2 : (t : ℕ) → on-array-open-lts.Need-loop-less-2 (
+  emit-reads.Asked,
+  emit-reads.Learnt,
+  array-turns-reads.Asked,
+  array-turns-reads.Learnt,
+  on-array-open-below t,
+  on-array-open.Post,
+  on-inline-table-open-below t,
+  on-inline-table-open.Post,
+) (on-array-open-at t) on-array-open.Post on-array-open-Inv-loop on-array-open-μ-loop
+on-array-open-loop-less-2 t c = omega (arith, stack-over-moved ((c .before .before .before .before .before .before .before .before .before .before .before .before .loop) .inv .0) _ ((c .before .before .before .before .before .before .before .before .before .array-turns) .ensures) ((c .before .enum-told2) .given .1), (c .before .before .before .before .before .before .before .before .before .array-turns) .ensures .good .low, (c .if2) .left)
+
+on-array-open-loop-again-2 : (t : ℕ) → on-array-open-lts.Need-loop-again-2 (
+  emit-reads.Asked,
+  emit-reads.Learnt,
+  array-turns-reads.Asked,
+  array-turns-reads.Learnt,
+  on-array-open-below t,
+  on-array-open.Post,
+  on-inline-table-open-below t,
+  on-inline-table-open.Post,
+) (on-array-open-at t) on-array-open.Post on-array-open-Inv-loop on-array-open-μ-loop
+on-array-open-loop-again-2 t c = (stack-pop ((c .before .before .before .before .before .before .before .before .before .before .before .before .loop) .inv .0) _ ((c .before .before .before .before .before .before .before .before .before .array-turns) .ensures) ((c .before .enum-told2) .given .1) ((c .if2) .left), (c .before .before .before .before .before .before .before .before .before .before .before .before .loop) .inv .1, (c .before .before .before .before .before .before .before .before .before .before .before .before .loop) .inv .2, ((c .before .before .before .before .before .before .before .before .before .array-turns .kept .1 .1 .1 .1 .1 .0)) ∙ (c .before .before .before .before .before .before .before .before .before .before .before .before .loop) .inv .3, ((c .before .before .before .before .before .before .before .before .before .array-turns .kept .1 .1 .1 .1 .1 .1 .0)) ∙ (c .before .before .before .before .before .before .before .before .before .before .before .before .loop) .inv .4, omega (arith, (c .before .before .before .before .before .before .before .before .before .before .before .before .loop) .inv .5))
 
 on-array-open-enum-known-x : (t : ℕ) → on-array-open-lts.Need-enum-known-x (
   emit-reads.Asked,
   emit-reads.Learnt,
-  array-turn-reads.Asked,
-  array-turn-reads.Learnt,
+  array-turns-reads.Asked,
+  array-turns-reads.Learnt,
   on-array-open-below t,
   on-array-open.Post,
   on-inline-table-open-below t,
@@ -218,95 +328,227 @@ on-array-open-enum-known-x : (t : ℕ) → on-array-open-lts.Need-enum-known-x (
 ) (on-array-open-at t) on-array-open.Post on-array-open-Inv-loop on-array-open-μ-loop
 on-array-open-enum-known-x t c = search needs
 
-on-array-open-sub-on-array-open : (t : ℕ) → on-array-open-lts.Need-sub-on-array-open (
-  emit-reads.Asked,
-  emit-reads.Learnt,
-  array-turn-reads.Asked,
-  array-turn-reads.Learnt,
-  on-array-open-below t,
-  on-array-open.Post,
-  on-inline-table-open-below t,
-  on-inline-table-open.Post,
-) (on-array-open-at t) on-array-open.Post on-array-open-Inv-loop on-array-open-μ-loop
-on-array-open-sub-on-array-open t c = omega (arith, (c .before .before .before .before .before .before .before .before .before .before .before .before .before .before .before .before .before .if1) .left)
-
-on-array-open-on-array-open-requires : (t : ℕ) → on-array-open-lts.Need-on-array-open-requires (
-  emit-reads.Asked,
-  emit-reads.Learnt,
-  array-turn-reads.Asked,
-  array-turn-reads.Learnt,
-  on-array-open-below t,
-  on-array-open.Post,
-  on-inline-table-open-below t,
-  on-inline-table-open.Post,
-) (on-array-open-at t) on-array-open.Post on-array-open-Inv-loop on-array-open-μ-loop
-on-array-open-on-array-open-requires t c κs = (omega (arith, (c .before .before .before .before .before .before .before .before .before .before .before .before .before .before .before .before .before .before .before .if1) .left, (c .before .before .before .before .before .before .before .before .before .before .before .before .before .before .before .before .before .before .before .before .before .before .before .pre) .0), (c .before .before .before .before .before .before .before .before .before .before .before .array-turn) .ensures .good)
-
 on-array-open-same-length-3 : (t : ℕ) → on-array-open-lts.Need-same-length-3 (
   emit-reads.Asked,
   emit-reads.Learnt,
-  array-turn-reads.Asked,
-  array-turn-reads.Learnt,
+  array-turns-reads.Asked,
+  array-turns-reads.Learnt,
   on-array-open-below t,
   on-array-open.Post,
   on-inline-table-open-below t,
   on-inline-table-open.Post,
 ) (on-array-open-at t) on-array-open.Post on-array-open-Inv-loop on-array-open-μ-loop
-on-array-open-same-length-3 t c = ((c .before .before .before .before .before .on-array-open .kept .1 .1 .1 .1 .1 .0) ∙ (c .before .before .before .before .before .before .before .before .before .before .before .before .before .before .before .before .before .array-turn .kept .1 .1 .1 .1 .1 .0)) ∙ (c .before .before .before .before .before .before .before .before .before .before .before .before .before .before .before .before .before .before .before .before .loop) .inv .1 ∙ (c .before .before .before .before .before .before .before .before .before .before .before .before .before .before .before .before .before .before .before .before .before .before .before .emit) .kept .0
+on-array-open-same-length-3 t c = ((c .before .before .before .before .before .before .before .before .before .before .array-turns .kept .1 .1 .1 .1 .1 .0)) ∙ (c .before .before .before .before .before .before .before .before .before .before .before .before .before .loop) .inv .3 ∙ (c .before .before .before .before .before .before .before .before .before .before .before .before .before .before .before .before .emit) .kept .0
 
 on-array-open-same-length-4 : (t : ℕ) → on-array-open-lts.Need-same-length-4 (
   emit-reads.Asked,
   emit-reads.Learnt,
-  array-turn-reads.Asked,
-  array-turn-reads.Learnt,
+  array-turns-reads.Asked,
+  array-turns-reads.Learnt,
   on-array-open-below t,
   on-array-open.Post,
   on-inline-table-open-below t,
   on-inline-table-open.Post,
 ) (on-array-open-at t) on-array-open.Post on-array-open-Inv-loop on-array-open-μ-loop
-on-array-open-same-length-4 t c = ((c .before .before .before .before .before .on-array-open .kept .1 .1 .1 .1 .1 .1 .0) ∙ (c .before .before .before .before .before .before .before .before .before .before .before .before .before .before .before .before .before .array-turn .kept .1 .1 .1 .1 .1 .1 .0)) ∙ (c .before .before .before .before .before .before .before .before .before .before .before .before .before .before .before .before .before .before .before .before .loop) .inv .2
+on-array-open-same-length-4 t c = ((c .before .before .before .before .before .before .before .before .before .before .array-turns .kept .1 .1 .1 .1 .1 .1 .0)) ∙ (c .before .before .before .before .before .before .before .before .before .before .before .before .before .loop) .inv .4
 
 on-array-open-returns-3 : (t : ℕ) → on-array-open-lts.Need-returns-3 (
   emit-reads.Asked,
   emit-reads.Learnt,
-  array-turn-reads.Asked,
-  array-turn-reads.Learnt,
+  array-turns-reads.Asked,
+  array-turns-reads.Learnt,
   on-array-open-below t,
   on-array-open.Post,
   on-inline-table-open-below t,
   on-inline-table-open.Post,
 ) (on-array-open-at t) on-array-open.Post on-array-open-Inv-loop on-array-open-μ-loop
-on-array-open-returns-3 t c = nested-as (open-array ((c .before .before .before .before .before .before .before .before .before .before .before .before .before .before .before .before .before .before .before .before .before .before .before .before .before .before .before .before .before .args) .levels) _ _ _ ((c .before .before .before .before .before .before .before .before .before .before .before .before .before .before .before .before .before .before .before .before .before .before .before .before .before .if1) .left)) (nested-item _ _ (λ all. (c .before .before .before .before .before .before .before .before .before .before .before .before .before .before .before .before .before .before .before .before .before .before .before .emit) .ensures all _) (array-stop (onOpen ((c .before .before .before .before .before .before .before .before .before .before .before .before .before .before .before .before .before .before .before .before .before .before .before .before .before .before .before .before .before .args) .levels - 1)) (λ nest. arrayTurn (span ((c .before .before .before .before .before .before .before .before .before .before .before .before .before .before .before .before .before .before .before .before .before .before .before .before .before .before .before .before .before .args) .head .start) ((c .before .before .before .before .before .before .before .before .before .before .before .before .before .before .before .before .before .before .before .before .before .before .before .before .before .before .before .before .before .args) .head .end)) nest) (λ f g w. refl) ((c .before .before .before .before .before .before .before .before .before .before .before .before .before .before .before .before .before .before .before .before .loop) .state) ((c .before .before .before .before .before .before .before .before .before .before .before .before .before .before .before .before .before .before .before .before .loop) .inv .0) ((c .before .before .before .before .before .before .before .before .before .before .before .before .before .before .before .before .before .array-turn) .result .state) ((c .before .before .before .before .before .before .before .before .before .before .before .before .before .before .before .before .before .array-turn) .ensures) _ ((c .before .before .before .before .before .before .before .before .before .x) .given .1) ((c .before .before .before .before .before .on-array-open) .ensures) ((c .if2) .taken)))
+on-array-open-returns-3 t c = nested-as (open-array ((c .before .before .before .before .before .before .before .before .before .before .before .before .before .before .before .before .before .before .before .before .before .before .args) .levels) _ _ _ ((c .before .before .before .before .before .before .before .before .before .before .before .before .before .before .before .before .before .before .if1) .left)) (nested-item _ _ (λ all. (c .before .before .before .before .before .before .before .before .before .before .before .before .before .before .before .before .emit) .ensures all _) (stack-none ((c .before .before .before .before .before .before .before .before .before .before .before .before .before .loop) .inv .0) _ ((c .before .before .before .before .before .before .before .before .before .before .array-turns) .ensures) _ ((c .before .before .x) .given .1) ((c .if3) .taken)))
 
-on-array-open-loop-less-2 : (t : ℕ) → on-array-open-lts.Need-loop-less-2 (
+on-array-open-mul-starts : (t : ℕ) → on-array-open-lts.Need-mul-starts (
   emit-reads.Asked,
   emit-reads.Learnt,
-  array-turn-reads.Asked,
-  array-turn-reads.Learnt,
+  array-turns-reads.Asked,
+  array-turns-reads.Learnt,
   on-array-open-below t,
   on-array-open.Post,
   on-inline-table-open-below t,
   on-inline-table-open.Post,
 ) (on-array-open-at t) on-array-open.Post on-array-open-Inv-loop on-array-open-μ-loop
-on-array-open-loop-less-2 t c = omega (arith, array-moved (onOpen ((c .before .before .before .before .before .before .before .before .before .before .before .before .before .before .before .before .before .before .before .before .before .before .before .before .before .before .before .before .before .before .before .args) .levels - 1)) (λ nest. arrayTurn (span ((c .before .before .before .before .before .before .before .before .before .before .before .before .before .before .before .before .before .before .before .before .before .before .before .before .before .before .before .before .before .before .before .args) .head .start) ((c .before .before .before .before .before .before .before .before .before .before .before .before .before .before .before .before .before .before .before .before .before .before .before .before .before .before .before .before .before .before .before .args) .head .end)) nest) (λ f g w. refl) ((c .before .before .before .before .before .before .before .before .before .before .before .before .before .before .before .before .before .before .before .before .before .before .loop) .state) ((c .before .before .before .before .before .before .before .before .before .before .before .before .before .before .before .before .before .before .before .before .before .before .loop) .inv .0) ((c .before .before .before .before .before .before .before .before .before .before .before .before .before .before .before .before .before .before .before .array-turn) .result .state) ((c .before .before .before .before .before .before .before .before .before .before .before .before .before .before .before .before .before .before .before .array-turn) .ensures) _ ((c .before .before .before .before .before .before .before .before .before .before .before .x) .given .1), (c .before .before .before .before .before .before .before .on-array-open) .ensures .on, (c .before .before .before .before .before .before .before .on-array-open) .ensures .good .low)
+on-array-open-mul-starts t c = search needs
 
-on-array-open-loop-again-2 : (t : ℕ) → on-array-open-lts.Need-loop-again-2 (
+on-array-open-array-write-starts : (t : ℕ) → on-array-open-lts.Need-array-write-starts (
   emit-reads.Asked,
   emit-reads.Learnt,
-  array-turn-reads.Asked,
-  array-turn-reads.Learnt,
+  array-turns-reads.Asked,
+  array-turns-reads.Learnt,
   on-array-open-below t,
   on-array-open.Post,
   on-inline-table-open-below t,
   on-inline-table-open.Post,
 ) (on-array-open-at t) on-array-open.Post on-array-open-Inv-loop on-array-open-μ-loop
-on-array-open-loop-again-2 t c = (array-again (onOpen ((c .before .before .before .before .before .before .before .before .before .before .before .before .before .before .before .before .before .before .before .before .before .before .before .before .before .before .before .before .before .before .before .args) .levels - 1)) (λ nest. arrayTurn (span ((c .before .before .before .before .before .before .before .before .before .before .before .before .before .before .before .before .before .before .before .before .before .before .before .before .before .before .before .before .before .before .before .args) .head .start) ((c .before .before .before .before .before .before .before .before .before .before .before .before .before .before .before .before .before .before .before .before .before .before .before .before .before .before .before .before .before .before .before .args) .head .end)) nest) (λ f g w. refl) ((c .before .before .before .before .before .before .before .before .before .before .before .before .before .before .before .before .before .before .before .before .before .before .loop) .state) ((c .before .before .before .before .before .before .before .before .before .before .before .before .before .before .before .before .before .before .before .before .before .before .loop) .inv .0) ((c .before .before .before .before .before .before .before .before .before .before .before .before .before .before .before .before .before .before .before .array-turn) .result .state) ((c .before .before .before .before .before .before .before .before .before .before .before .before .before .before .before .before .before .before .before .array-turn) .ensures) _ ((c .before .before .before .before .before .before .before .before .before .before .before .x) .given .1) ((c .before .before .before .before .before .before .before .on-array-open) .ensures) ((c .before .before .if2) .left), ((c .before .before .before .before .before .before .before .on-array-open .kept .1 .1 .1 .1 .1 .0) ∙ (c .before .before .before .before .before .before .before .before .before .before .before .before .before .before .before .before .before .before .before .array-turn .kept .1 .1 .1 .1 .1 .0)) ∙ (c .before .before .before .before .before .before .before .before .before .before .before .before .before .before .before .before .before .before .before .before .before .before .loop) .inv .1, ((c .before .before .before .before .before .before .before .on-array-open .kept .1 .1 .1 .1 .1 .1 .0) ∙ (c .before .before .before .before .before .before .before .before .before .before .before .before .before .before .before .before .before .before .before .array-turn .kept .1 .1 .1 .1 .1 .1 .0)) ∙ (c .before .before .before .before .before .before .before .before .before .before .before .before .before .before .before .before .before .before .before .before .before .before .loop) .inv .2)
+on-array-open-array-write-starts t c = search needs
+
+on-array-open-mul-ends : (t : ℕ) → on-array-open-lts.Need-mul-ends (
+  emit-reads.Asked,
+  emit-reads.Learnt,
+  array-turns-reads.Asked,
+  array-turns-reads.Learnt,
+  on-array-open-below t,
+  on-array-open.Post,
+  on-inline-table-open-below t,
+  on-inline-table-open.Post,
+) (on-array-open-at t) on-array-open.Post on-array-open-Inv-loop on-array-open-μ-loop
+on-array-open-mul-ends t c = search needs
+
+on-array-open-array-write-ends : (t : ℕ) → on-array-open-lts.Need-array-write-ends (
+  emit-reads.Asked,
+  emit-reads.Learnt,
+  array-turns-reads.Asked,
+  array-turns-reads.Learnt,
+  on-array-open-below t,
+  on-array-open.Post,
+  on-inline-table-open-below t,
+  on-inline-table-open.Post,
+) (on-array-open-at t) on-array-open.Post on-array-open-Inv-loop on-array-open-μ-loop
+on-array-open-array-write-ends t c = search needs
+
+on-array-open-add-depth : (t : ℕ) → on-array-open-lts.Need-add-depth (
+  emit-reads.Asked,
+  emit-reads.Learnt,
+  array-turns-reads.Asked,
+  array-turns-reads.Learnt,
+  on-array-open-below t,
+  on-array-open.Post,
+  on-inline-table-open-below t,
+  on-inline-table-open.Post,
+) (on-array-open-at t) on-array-open.Post on-array-open-Inv-loop on-array-open-μ-loop
+on-array-open-add-depth t c = search needs
+
+on-array-open-sub-left-2 : (t : ℕ) → on-array-open-lts.Need-sub-left-2 (
+  emit-reads.Asked,
+  emit-reads.Learnt,
+  array-turns-reads.Asked,
+  array-turns-reads.Learnt,
+  on-array-open-below t,
+  on-array-open.Post,
+  on-inline-table-open-below t,
+  on-inline-table-open.Post,
+) (on-array-open-at t) on-array-open.Post on-array-open-Inv-loop on-array-open-μ-loop
+on-array-open-sub-left-2 t c = omega (arith, (c .before .if3) .left)
+
+on-array-open-emit-requires-2 : (t : ℕ) → on-array-open-lts.Need-emit-requires-2 (
+  emit-reads.Asked,
+  emit-reads.Learnt,
+  array-turns-reads.Asked,
+  array-turns-reads.Learnt,
+  on-array-open-below t,
+  on-array-open.Post,
+  on-inline-table-open-below t,
+  on-inline-table-open.Post,
+) (on-array-open-at t) on-array-open.Post on-array-open-Inv-loop on-array-open-μ-loop
+on-array-open-emit-requires-2 t c κs = search needs
+
+on-array-open-loop-less-3 : (t : ℕ) → on-array-open-lts.Need-loop-less-3 (
+  emit-reads.Asked,
+  emit-reads.Learnt,
+  array-turns-reads.Asked,
+  array-turns-reads.Learnt,
+  on-array-open-below t,
+  on-array-open.Post,
+  on-inline-table-open-below t,
+  on-inline-table-open.Post,
+) (on-array-open-at t) on-array-open.Post on-array-open-Inv-loop on-array-open-μ-loop
+on-array-open-loop-less-3 t c = omega (arith, stack-array-moved ((c .before .before .before .before .before .before .before .before .before .before .before .before .before .before .before .before .before .before .loop) .inv .0) _ ((c .before .before .before .before .before .before .before .before .before .before .before .before .before .before .before .array-turns) .ensures) _ ((c .before .before .before .before .before .before .before .x) .given .1), (c .before .before .before .before .before .before .before .before .before .before .before .before .before .before .before .array-turns) .ensures .good .low)
+
+on-array-open-loop-again-3 : (t : ℕ) → on-array-open-lts.Need-loop-again-3 (
+  emit-reads.Asked,
+  emit-reads.Learnt,
+  array-turns-reads.Asked,
+  array-turns-reads.Learnt,
+  on-array-open-below t,
+  on-array-open.Post,
+  on-inline-table-open-below t,
+  on-inline-table-open.Post,
+) (on-array-open-at t) on-array-open.Post on-array-open-Inv-loop on-array-open-μ-loop
+on-array-open-loop-again-3 t c = (stack-push ((c .before .before .before .before .before .before .before .before .before .before .before .before .before .before .before .before .before .before .loop) .inv .0) _ ((c .before .before .before .before .before .before .before .before .before .before .before .before .before .before .before .array-turns) .ensures) _ ((c .before .before .before .before .before .before .before .x) .given .1) ((c .before .before .before .before .before .if3) .left) (omega (arith, (c .before .before .before .before .if4) .taken, (c .before .before .before .before .before .before .before .before .before .before .before .before .before .before .before .before .before .before .loop) .inv .1)) (omega (arith, (c .before .before .before .before .if4) .taken, (c .before .before .before .before .before .before .before .before .before .before .before .before .before .before .before .before .before .before .loop) .inv .2)) _ (λ all. (c .before .before .emit2) .ensures all _), length-set ((c .before .before .before .before .before .before .before .before .before .before .before .before .before .before .before .before .before .before .loop) .starts) ((c .before .before .before .before .before .before .before .before .before .before .before .before .before .before .before .before .before .before .loop) .depth) ((c .before .before .before .before .before .before .before .before .before .before .before .before .before .before .before .before .before .before .loop) .inner .start) ∙ (c .before .before .before .before .before .before .before .before .before .before .before .before .before .before .before .before .before .before .loop) .inv .1, length-set ((c .before .before .before .before .before .before .before .before .before .before .before .before .before .before .before .before .before .before .loop) .ends) ((c .before .before .before .before .before .before .before .before .before .before .before .before .before .before .before .before .before .before .loop) .depth) ((c .before .before .before .before .before .before .before .before .before .before .before .before .before .before .before .before .before .before .loop) .inner .end) ∙ (c .before .before .before .before .before .before .before .before .before .before .before .before .before .before .before .before .before .before .loop) .inv .2, ((c .before .before .emit2 .kept .0) ∙ (c .before .before .before .before .before .before .before .before .before .before .before .before .before .before .before .array-turns .kept .1 .1 .1 .1 .1 .0)) ∙ (c .before .before .before .before .before .before .before .before .before .before .before .before .before .before .before .before .before .before .loop) .inv .3, ((c .before .before .before .before .before .before .before .before .before .before .before .before .before .before .before .array-turns .kept .1 .1 .1 .1 .1 .1 .0)) ∙ (c .before .before .before .before .before .before .before .before .before .before .before .before .before .before .before .before .before .before .loop) .inv .4, omega (arith, (c .before .before .before .before .if4) .taken))
+
+on-array-open-on-array-open-requires : (t : ℕ) → on-array-open-lts.Need-on-array-open-requires (
+  emit-reads.Asked,
+  emit-reads.Learnt,
+  array-turns-reads.Asked,
+  array-turns-reads.Learnt,
+  on-array-open-below t,
+  on-array-open.Post,
+  on-inline-table-open-below t,
+  on-inline-table-open.Post,
+) (on-array-open-at t) on-array-open.Post on-array-open-Inv-loop on-array-open-μ-loop
+on-array-open-on-array-open-requires t c κs = (omega (arith, ((c .before .before .before .before .before .before .before .before .before .before .before .before .before .before .before .before .loop) .inv .0) .sum, (c .before .before .before .before .before .before .before .before .before .before .before .before .before .before .before .before .before .before .before .before .before .before .before .before .before .pre) .0), (c .before .before .before .before .before .before .before .before .before .before .before .before .before .array-turns) .ensures .good)
+
+on-array-open-same-length-5 : (t : ℕ) → on-array-open-lts.Need-same-length-5 (
+  emit-reads.Asked,
+  emit-reads.Learnt,
+  array-turns-reads.Asked,
+  array-turns-reads.Learnt,
+  on-array-open-below t,
+  on-array-open.Post,
+  on-inline-table-open-below t,
+  on-inline-table-open.Post,
+) (on-array-open-at t) on-array-open.Post on-array-open-Inv-loop on-array-open-μ-loop
+on-array-open-same-length-5 t c = ((c .before .before .before .before .before .on-array-open .kept .1 .1 .1 .1 .1 .0) ∙ (c .before .before .before .before .before .before .before .before .before .before .before .before .before .before .before .before .before .before .before .array-turns .kept .1 .1 .1 .1 .1 .0)) ∙ (c .before .before .before .before .before .before .before .before .before .before .before .before .before .before .before .before .before .before .before .before .before .before .loop) .inv .3 ∙ (c .before .before .before .before .before .before .before .before .before .before .before .before .before .before .before .before .before .before .before .before .before .before .before .before .before .emit) .kept .0
+
+on-array-open-same-length-6 : (t : ℕ) → on-array-open-lts.Need-same-length-6 (
+  emit-reads.Asked,
+  emit-reads.Learnt,
+  array-turns-reads.Asked,
+  array-turns-reads.Learnt,
+  on-array-open-below t,
+  on-array-open.Post,
+  on-inline-table-open-below t,
+  on-inline-table-open.Post,
+) (on-array-open-at t) on-array-open.Post on-array-open-Inv-loop on-array-open-μ-loop
+on-array-open-same-length-6 t c = ((c .before .before .before .before .before .on-array-open .kept .1 .1 .1 .1 .1 .1 .0) ∙ (c .before .before .before .before .before .before .before .before .before .before .before .before .before .before .before .before .before .before .before .array-turns .kept .1 .1 .1 .1 .1 .1 .0)) ∙ (c .before .before .before .before .before .before .before .before .before .before .before .before .before .before .before .before .before .before .before .before .before .before .loop) .inv .4
+
+on-array-open-returns-4 : (t : ℕ) → on-array-open-lts.Need-returns-4 (
+  emit-reads.Asked,
+  emit-reads.Learnt,
+  array-turns-reads.Asked,
+  array-turns-reads.Learnt,
+  on-array-open-below t,
+  on-array-open.Post,
+  on-inline-table-open-below t,
+  on-inline-table-open.Post,
+) (on-array-open-at t) on-array-open.Post on-array-open-Inv-loop on-array-open-μ-loop
+on-array-open-returns-4 t c = nested-as (open-array ((c .before .before .before .before .before .before .before .before .before .before .before .before .before .before .before .before .before .before .before .before .before .before .before .before .before .before .before .before .before .before .before .args) .levels) _ _ _ ((c .before .before .before .before .before .before .before .before .before .before .before .before .before .before .before .before .before .before .before .before .before .before .before .before .before .before .before .if1) .left)) (nested-item _ _ (λ all. (c .before .before .before .before .before .before .before .before .before .before .before .before .before .before .before .before .before .before .before .before .before .before .before .before .before .emit) .ensures all _) (stack-array-stop ((c .before .before .before .before .before .before .before .before .before .before .before .before .before .before .before .before .before .before .before .before .before .before .loop) .inv .0) _ ((c .before .before .before .before .before .before .before .before .before .before .before .before .before .before .before .before .before .before .before .array-turns) .ensures) _ ((c .before .before .before .before .before .before .before .before .before .before .before .x) .given .1) ((c .before .before .before .before .before .on-array-open) .ensures) ((c .if5) .taken)))
+
+on-array-open-loop-less-4 : (t : ℕ) → on-array-open-lts.Need-loop-less-4 (
+  emit-reads.Asked,
+  emit-reads.Learnt,
+  array-turns-reads.Asked,
+  array-turns-reads.Learnt,
+  on-array-open-below t,
+  on-array-open.Post,
+  on-inline-table-open-below t,
+  on-inline-table-open.Post,
+) (on-array-open-at t) on-array-open.Post on-array-open-Inv-loop on-array-open-μ-loop
+on-array-open-loop-less-4 t c = omega (arith, stack-array-moved ((c .before .before .before .before .before .before .before .before .before .before .before .before .before .before .before .before .before .before .before .before .before .before .before .before .loop) .inv .0) _ ((c .before .before .before .before .before .before .before .before .before .before .before .before .before .before .before .before .before .before .before .before .before .array-turns) .ensures) _ ((c .before .before .before .before .before .before .before .before .before .before .before .before .before .x) .given .1), (c .before .before .before .before .before .before .before .on-array-open) .ensures .on, (c .before .before .before .before .before .before .before .on-array-open) .ensures .good .low)
+
+on-array-open-loop-again-4 : (t : ℕ) → on-array-open-lts.Need-loop-again-4 (
+  emit-reads.Asked,
+  emit-reads.Learnt,
+  array-turns-reads.Asked,
+  array-turns-reads.Learnt,
+  on-array-open-below t,
+  on-array-open.Post,
+  on-inline-table-open-below t,
+  on-inline-table-open.Post,
+) (on-array-open-at t) on-array-open.Post on-array-open-Inv-loop on-array-open-μ-loop
+on-array-open-loop-again-4 t c = (stack-array-again ((c .before .before .before .before .before .before .before .before .before .before .before .before .before .before .before .before .before .before .before .before .before .before .before .before .loop) .inv .0) _ ((c .before .before .before .before .before .before .before .before .before .before .before .before .before .before .before .before .before .before .before .before .before .array-turns) .ensures) _ ((c .before .before .before .before .before .before .before .before .before .before .before .before .before .x) .given .1) ((c .before .before .before .before .before .before .before .on-array-open) .ensures) ((c .before .before .if5) .left), (c .before .before .before .before .before .before .before .before .before .before .before .before .before .before .before .before .before .before .before .before .before .before .before .before .loop) .inv .1, (c .before .before .before .before .before .before .before .before .before .before .before .before .before .before .before .before .before .before .before .before .before .before .before .before .loop) .inv .2, ((c .before .before .before .before .before .before .before .on-array-open .kept .1 .1 .1 .1 .1 .0) ∙ (c .before .before .before .before .before .before .before .before .before .before .before .before .before .before .before .before .before .before .before .before .before .array-turns .kept .1 .1 .1 .1 .1 .0)) ∙ (c .before .before .before .before .before .before .before .before .before .before .before .before .before .before .before .before .before .before .before .before .before .before .before .before .loop) .inv .3, ((c .before .before .before .before .before .before .before .on-array-open .kept .1 .1 .1 .1 .1 .1 .0) ∙ (c .before .before .before .before .before .before .before .before .before .before .before .before .before .before .before .before .before .before .before .before .before .array-turns .kept .1 .1 .1 .1 .1 .1 .0)) ∙ (c .before .before .before .before .before .before .before .before .before .before .before .before .before .before .before .before .before .before .before .before .before .before .before .before .loop) .inv .4, omega (arith, (c .before .before .before .before .before .before .before .before .before .before .before .before .before .before .before .before .before .before .before .before .before .before .before .before .loop) .inv .5))
 
 on-array-open-enum-known-x-2 : (t : ℕ) → on-array-open-lts.Need-enum-known-x-2 (
   emit-reads.Asked,
   emit-reads.Learnt,
-  array-turn-reads.Asked,
-  array-turn-reads.Learnt,
+  array-turns-reads.Asked,
+  array-turns-reads.Learnt,
   on-array-open-below t,
   on-array-open.Post,
   on-inline-table-open-below t,
@@ -314,102 +556,92 @@ on-array-open-enum-known-x-2 : (t : ℕ) → on-array-open-lts.Need-enum-known-x
 ) (on-array-open-at t) on-array-open.Post on-array-open-Inv-loop on-array-open-μ-loop
 on-array-open-enum-known-x-2 t c = search needs
 
-on-array-open-sub-on-inline-table-open : (t : ℕ) → on-array-open-lts.Need-sub-on-inline-table-open (
-  emit-reads.Asked,
-  emit-reads.Learnt,
-  array-turn-reads.Asked,
-  array-turn-reads.Learnt,
-  on-array-open-below t,
-  on-array-open.Post,
-  on-inline-table-open-below t,
-  on-inline-table-open.Post,
-) (on-array-open-at t) on-array-open.Post on-array-open-Inv-loop on-array-open-μ-loop
-on-array-open-sub-on-inline-table-open t c = omega (arith, (c .before .before .before .before .before .before .before .before .before .before .before .before .before .before .before .before .before .if1) .left)
-
 on-array-open-on-inline-table-open-requires :
     (t : ℕ) → on-array-open-lts.Need-on-inline-table-open-requires (
       emit-reads.Asked,
       emit-reads.Learnt,
-      array-turn-reads.Asked,
-      array-turn-reads.Learnt,
+      array-turns-reads.Asked,
+      array-turns-reads.Learnt,
       on-array-open-below t,
       on-array-open.Post,
       on-inline-table-open-below t,
       on-inline-table-open.Post,
     ) (on-array-open-at t) on-array-open.Post on-array-open-Inv-loop on-array-open-μ-loop
-on-array-open-on-inline-table-open-requires t c κs = (omega (arith, (c .before .before .before .before .before .before .before .before .before .before .before .before .before .before .before .before .before .before .before .if1) .left, (c .before .before .before .before .before .before .before .before .before .before .before .before .before .before .before .before .before .before .before .before .before .before .before .pre) .0), (c .before .before .before .before .before .before .before .before .before .before .before .array-turn) .ensures .good)
+on-array-open-on-inline-table-open-requires t c κs = (omega (arith, ((c .before .before .before .before .before .before .before .before .before .before .before .before .before .before .loop) .inv .0) .sum, (c .before .before .before .before .before .before .before .before .before .before .before .before .before .before .before .before .before .before .before .before .before .before .before .pre) .0), (c .before .before .before .before .before .before .before .before .before .before .before .array-turns) .ensures .good)
 
-on-array-open-same-length-5 : (t : ℕ) → on-array-open-lts.Need-same-length-5 (
+on-array-open-same-length-7 : (t : ℕ) → on-array-open-lts.Need-same-length-7 (
   emit-reads.Asked,
   emit-reads.Learnt,
-  array-turn-reads.Asked,
-  array-turn-reads.Learnt,
+  array-turns-reads.Asked,
+  array-turns-reads.Learnt,
   on-array-open-below t,
   on-array-open.Post,
   on-inline-table-open-below t,
   on-inline-table-open.Post,
 ) (on-array-open-at t) on-array-open.Post on-array-open-Inv-loop on-array-open-μ-loop
-on-array-open-same-length-5 t c = ((c .before .before .before .before .before .on-inline-table-open .kept .1 .1 .1 .1 .1 .0) ∙ (c .before .before .before .before .before .before .before .before .before .before .before .before .before .before .before .before .before .array-turn .kept .1 .1 .1 .1 .1 .0)) ∙ (c .before .before .before .before .before .before .before .before .before .before .before .before .before .before .before .before .before .before .before .before .loop) .inv .1 ∙ (c .before .before .before .before .before .before .before .before .before .before .before .before .before .before .before .before .before .before .before .before .before .before .before .emit) .kept .0
+on-array-open-same-length-7 t c = ((c .before .before .before .before .before .on-inline-table-open .kept .1 .1 .1 .1 .1 .0) ∙ (c .before .before .before .before .before .before .before .before .before .before .before .before .before .before .before .before .before .array-turns .kept .1 .1 .1 .1 .1 .0)) ∙ (c .before .before .before .before .before .before .before .before .before .before .before .before .before .before .before .before .before .before .before .before .loop) .inv .3 ∙ (c .before .before .before .before .before .before .before .before .before .before .before .before .before .before .before .before .before .before .before .before .before .before .before .emit) .kept .0
 
-on-array-open-same-length-6 : (t : ℕ) → on-array-open-lts.Need-same-length-6 (
+on-array-open-same-length-8 : (t : ℕ) → on-array-open-lts.Need-same-length-8 (
   emit-reads.Asked,
   emit-reads.Learnt,
-  array-turn-reads.Asked,
-  array-turn-reads.Learnt,
+  array-turns-reads.Asked,
+  array-turns-reads.Learnt,
   on-array-open-below t,
   on-array-open.Post,
   on-inline-table-open-below t,
   on-inline-table-open.Post,
 ) (on-array-open-at t) on-array-open.Post on-array-open-Inv-loop on-array-open-μ-loop
-on-array-open-same-length-6 t c = ((c .before .before .before .before .before .on-inline-table-open .kept .1 .1 .1 .1 .1 .1 .0) ∙ (c .before .before .before .before .before .before .before .before .before .before .before .before .before .before .before .before .before .array-turn .kept .1 .1 .1 .1 .1 .1 .0)) ∙ (c .before .before .before .before .before .before .before .before .before .before .before .before .before .before .before .before .before .before .before .before .loop) .inv .2
+on-array-open-same-length-8 t c = ((c .before .before .before .before .before .on-inline-table-open .kept .1 .1 .1 .1 .1 .1 .0) ∙ (c .before .before .before .before .before .before .before .before .before .before .before .before .before .before .before .before .before .array-turns .kept .1 .1 .1 .1 .1 .1 .0)) ∙ (c .before .before .before .before .before .before .before .before .before .before .before .before .before .before .before .before .before .before .before .before .loop) .inv .4
 
-on-array-open-returns-4 : (t : ℕ) → on-array-open-lts.Need-returns-4 (
+on-array-open-returns-5 : (t : ℕ) → on-array-open-lts.Need-returns-5 (
   emit-reads.Asked,
   emit-reads.Learnt,
-  array-turn-reads.Asked,
-  array-turn-reads.Learnt,
+  array-turns-reads.Asked,
+  array-turns-reads.Learnt,
   on-array-open-below t,
   on-array-open.Post,
   on-inline-table-open-below t,
   on-inline-table-open.Post,
 ) (on-array-open-at t) on-array-open.Post on-array-open-Inv-loop on-array-open-μ-loop
-on-array-open-returns-4 t c = nested-as (open-array ((c .before .before .before .before .before .before .before .before .before .before .before .before .before .before .before .before .before .before .before .before .before .before .before .before .before .before .before .before .before .args) .levels) _ _ _ ((c .before .before .before .before .before .before .before .before .before .before .before .before .before .before .before .before .before .before .before .before .before .before .before .before .before .if1) .left)) (nested-item _ _ (λ all. (c .before .before .before .before .before .before .before .before .before .before .before .before .before .before .before .before .before .before .before .before .before .before .before .emit) .ensures all _) (table-stop (onOpen ((c .before .before .before .before .before .before .before .before .before .before .before .before .before .before .before .before .before .before .before .before .before .before .before .before .before .before .before .before .before .args) .levels - 1)) (λ nest. arrayTurn (span ((c .before .before .before .before .before .before .before .before .before .before .before .before .before .before .before .before .before .before .before .before .before .before .before .before .before .before .before .before .before .args) .head .start) ((c .before .before .before .before .before .before .before .before .before .before .before .before .before .before .before .before .before .before .before .before .before .before .before .before .before .before .before .before .before .args) .head .end)) nest) (λ f g w. refl) ((c .before .before .before .before .before .before .before .before .before .before .before .before .before .before .before .before .before .before .before .before .loop) .state) ((c .before .before .before .before .before .before .before .before .before .before .before .before .before .before .before .before .before .before .before .before .loop) .inv .0) ((c .before .before .before .before .before .before .before .before .before .before .before .before .before .before .before .before .before .array-turn) .result .state) ((c .before .before .before .before .before .before .before .before .before .before .before .before .before .before .before .before .before .array-turn) .ensures) _ ((c .before .before .before .before .before .before .before .before .before .x2) .given .1) ((c .before .before .before .before .before .on-inline-table-open) .ensures) ((c .if3) .taken)))
+on-array-open-returns-5 t c = nested-as (open-array ((c .before .before .before .before .before .before .before .before .before .before .before .before .before .before .before .before .before .before .before .before .before .before .before .before .before .before .before .before .before .args) .levels) _ _ _ ((c .before .before .before .before .before .before .before .before .before .before .before .before .before .before .before .before .before .before .before .before .before .before .before .before .before .if1) .left)) (nested-item _ _ (λ all. (c .before .before .before .before .before .before .before .before .before .before .before .before .before .before .before .before .before .before .before .before .before .before .before .emit) .ensures all _) (stack-table-stop ((c .before .before .before .before .before .before .before .before .before .before .before .before .before .before .before .before .before .before .before .before .loop) .inv .0) _ ((c .before .before .before .before .before .before .before .before .before .before .before .before .before .before .before .before .before .array-turns) .ensures) _ ((c .before .before .before .before .before .before .before .before .before .x2) .given .1) ((c .before .before .before .before .before .on-inline-table-open) .ensures) ((c .if6) .taken)))
 
-on-array-open-loop-less-3 : (t : ℕ) → on-array-open-lts.Need-loop-less-3 (
+on-array-open-loop-less-5 : (t : ℕ) → on-array-open-lts.Need-loop-less-5 (
   emit-reads.Asked,
   emit-reads.Learnt,
-  array-turn-reads.Asked,
-  array-turn-reads.Learnt,
+  array-turns-reads.Asked,
+  array-turns-reads.Learnt,
   on-array-open-below t,
   on-array-open.Post,
   on-inline-table-open-below t,
   on-inline-table-open.Post,
 ) (on-array-open-at t) on-array-open.Post on-array-open-Inv-loop on-array-open-μ-loop
-on-array-open-loop-less-3 t c = omega (arith, table-moved (onOpen ((c .before .before .before .before .before .before .before .before .before .before .before .before .before .before .before .before .before .before .before .before .before .before .before .before .before .before .before .before .before .before .before .args) .levels - 1)) (λ nest. arrayTurn (span ((c .before .before .before .before .before .before .before .before .before .before .before .before .before .before .before .before .before .before .before .before .before .before .before .before .before .before .before .before .before .before .before .args) .head .start) ((c .before .before .before .before .before .before .before .before .before .before .before .before .before .before .before .before .before .before .before .before .before .before .before .before .before .before .before .before .before .before .before .args) .head .end)) nest) (λ f g w. refl) ((c .before .before .before .before .before .before .before .before .before .before .before .before .before .before .before .before .before .before .before .before .before .before .loop) .state) ((c .before .before .before .before .before .before .before .before .before .before .before .before .before .before .before .before .before .before .before .before .before .before .loop) .inv .0) ((c .before .before .before .before .before .before .before .before .before .before .before .before .before .before .before .before .before .before .before .array-turn) .result .state) ((c .before .before .before .before .before .before .before .before .before .before .before .before .before .before .before .before .before .before .before .array-turn) .ensures) _ ((c .before .before .before .before .before .before .before .before .before .before .before .x2) .given .1), (c .before .before .before .before .before .before .before .on-inline-table-open) .ensures .on, (c .before .before .before .before .before .before .before .on-inline-table-open) .ensures .good .low)
+on-array-open-loop-less-5 t c = omega (arith, stack-table-moved ((c .before .before .before .before .before .before .before .before .before .before .before .before .before .before .before .before .before .before .before .before .before .before .loop) .inv .0) _ ((c .before .before .before .before .before .before .before .before .before .before .before .before .before .before .before .before .before .before .before .array-turns) .ensures) _ ((c .before .before .before .before .before .before .before .before .before .before .before .x2) .given .1), (c .before .before .before .before .before .before .before .on-inline-table-open) .ensures .on, (c .before .before .before .before .before .before .before .on-inline-table-open) .ensures .good .low)
 
-on-array-open-loop-again-3 : (t : ℕ) → on-array-open-lts.Need-loop-again-3 (
+on-array-open-loop-again-5 : (t : ℕ) → on-array-open-lts.Need-loop-again-5 (
   emit-reads.Asked,
   emit-reads.Learnt,
-  array-turn-reads.Asked,
-  array-turn-reads.Learnt,
+  array-turns-reads.Asked,
+  array-turns-reads.Learnt,
   on-array-open-below t,
   on-array-open.Post,
   on-inline-table-open-below t,
   on-inline-table-open.Post,
 ) (on-array-open-at t) on-array-open.Post on-array-open-Inv-loop on-array-open-μ-loop
-on-array-open-loop-again-3 t c = (table-again (onOpen ((c .before .before .before .before .before .before .before .before .before .before .before .before .before .before .before .before .before .before .before .before .before .before .before .before .before .before .before .before .before .before .before .args) .levels - 1)) (λ nest. arrayTurn (span ((c .before .before .before .before .before .before .before .before .before .before .before .before .before .before .before .before .before .before .before .before .before .before .before .before .before .before .before .before .before .before .before .args) .head .start) ((c .before .before .before .before .before .before .before .before .before .before .before .before .before .before .before .before .before .before .before .before .before .before .before .before .before .before .before .before .before .before .before .args) .head .end)) nest) (λ f g w. refl) ((c .before .before .before .before .before .before .before .before .before .before .before .before .before .before .before .before .before .before .before .before .before .before .loop) .state) ((c .before .before .before .before .before .before .before .before .before .before .before .before .before .before .before .before .before .before .before .before .before .before .loop) .inv .0) ((c .before .before .before .before .before .before .before .before .before .before .before .before .before .before .before .before .before .before .before .array-turn) .result .state) ((c .before .before .before .before .before .before .before .before .before .before .before .before .before .before .before .before .before .before .before .array-turn) .ensures) _ ((c .before .before .before .before .before .before .before .before .before .before .before .x2) .given .1) ((c .before .before .before .before .before .before .before .on-inline-table-open) .ensures) ((c .before .before .if3) .left), ((c .before .before .before .before .before .before .before .on-inline-table-open .kept .1 .1 .1 .1 .1 .0) ∙ (c .before .before .before .before .before .before .before .before .before .before .before .before .before .before .before .before .before .before .before .array-turn .kept .1 .1 .1 .1 .1 .0)) ∙ (c .before .before .before .before .before .before .before .before .before .before .before .before .before .before .before .before .before .before .before .before .before .before .loop) .inv .1, ((c .before .before .before .before .before .before .before .on-inline-table-open .kept .1 .1 .1 .1 .1 .1 .0) ∙ (c .before .before .before .before .before .before .before .before .before .before .before .before .before .before .before .before .before .before .before .array-turn .kept .1 .1 .1 .1 .1 .1 .0)) ∙ (c .before .before .before .before .before .before .before .before .before .before .before .before .before .before .before .before .before .before .before .before .before .before .loop) .inv .2)
+on-array-open-loop-again-5 t c = (stack-table-again ((c .before .before .before .before .before .before .before .before .before .before .before .before .before .before .before .before .before .before .before .before .before .before .loop) .inv .0) _ ((c .before .before .before .before .before .before .before .before .before .before .before .before .before .before .before .before .before .before .before .array-turns) .ensures) _ ((c .before .before .before .before .before .before .before .before .before .before .before .x2) .given .1) ((c .before .before .before .before .before .before .before .on-inline-table-open) .ensures) ((c .before .before .if6) .left), (c .before .before .before .before .before .before .before .before .before .before .before .before .before .before .before .before .before .before .before .before .before .before .loop) .inv .1, (c .before .before .before .before .before .before .before .before .before .before .before .before .before .before .before .before .before .before .before .before .before .before .loop) .inv .2, ((c .before .before .before .before .before .before .before .on-inline-table-open .kept .1 .1 .1 .1 .1 .0) ∙ (c .before .before .before .before .before .before .before .before .before .before .before .before .before .before .before .before .before .before .before .array-turns .kept .1 .1 .1 .1 .1 .0)) ∙ (c .before .before .before .before .before .before .before .before .before .before .before .before .before .before .before .before .before .before .before .before .before .before .loop) .inv .3, ((c .before .before .before .before .before .before .before .on-inline-table-open .kept .1 .1 .1 .1 .1 .1 .0) ∙ (c .before .before .before .before .before .before .before .before .before .before .before .before .before .before .before .before .before .before .before .array-turns .kept .1 .1 .1 .1 .1 .1 .0)) ∙ (c .before .before .before .before .before .before .before .before .before .before .before .before .before .before .before .before .before .before .before .before .before .before .loop) .inv .4, omega (arith, (c .before .before .before .before .before .before .before .before .before .before .before .before .before .before .before .before .before .before .before .before .before .before .loop) .inv .5))
 
 abbrev on-inline-table-open-Inv-loop : on-inline-table-open-lts.InvT-loop
-on-inline-table-open-Inv-loop s head levels events₀ errors₀ n₀ cur₀ p₀ events errors n cur p =
+on-inline-table-open-Inv-loop s head levels events₀ errors₀ n₀ cur₀ p₀ actions events errors n cur p =
     Turns s (λ k. turns (inlineTableTurn (span (head .start) (head .end)) (onOpen (levels - 1))) k p (tokensAt s cur)) (looping (inlineTableTurn (span (head .start) (head .end)) (onOpen (levels - 1))) p₀ (tokensAt s cur₀)) (bufs events errors n) (bufs events₀ errors₀ n₀) cur cur₀
-    × (length events ≡ length events₀) × (length errors ≡ length errors₀)
+    × (length events ≡ length events₀) × (length errors ≡ length errors₀) × (actions ≡ actionTable)
 
 abbrev on-inline-table-open-μ-loop : on-inline-table-open-lts.MeasureT-loop
-on-inline-table-open-μ-loop s head levels events₀ errors₀ n₀ cur₀ p₀ events errors n cur p = count s - cur .at
+on-inline-table-open-μ-loop s head levels events₀ errors₀ n₀ cur₀ p₀ actions events errors n cur p = count s - cur .at
 
 on-inline-table-open-returns : (t : ℕ) → on-inline-table-open-lts.Need-returns (
   emit-reads.Asked,
   emit-reads.Learnt,
+  action-table-reads.Asked,
+  action-table-reads.Learnt,
   inline-table-turn-reads.Asked,
   inline-table-turn-reads.Learnt,
   on-array-open-below t,
@@ -426,6 +658,8 @@ on-inline-table-open-returns t c = no-level ((c .before .before .before .before 
 on-inline-table-open-emit-requires : (t : ℕ) → on-inline-table-open-lts.Need-emit-requires (
   emit-reads.Asked,
   emit-reads.Learnt,
+  action-table-reads.Asked,
+  action-table-reads.Learnt,
   inline-table-turn-reads.Asked,
   inline-table-turn-reads.Learnt,
   on-array-open-below t,
@@ -439,26 +673,12 @@ on-inline-table-open-emit-requires : (t : ℕ) → on-inline-table-open-lts.Need
     on-inline-table-open-μ-loop
 on-inline-table-open-emit-requires t c κs = search needs
 
-on-inline-table-open-loop-holds : (t : ℕ) → on-inline-table-open-lts.Need-loop-holds (
-  emit-reads.Asked,
-  emit-reads.Learnt,
-  inline-table-turn-reads.Asked,
-  inline-table-turn-reads.Learnt,
-  on-array-open-below t,
-  on-array-open.Post,
-  on-inline-table-open-below t,
-  on-inline-table-open.Post,
-)
-    (on-inline-table-open-at t)
-    on-inline-table-open.Post
-    on-inline-table-open-Inv-loop
-    on-inline-table-open-μ-loop
-on-inline-table-open-loop-holds t c = (turns-begun _ _ _ _ ((c .before .before .before .before .before .before .before .before .pre) .1), refl, refl)
-
-on-inline-table-open-inline-table-turn-requires :
-    (t : ℕ) → on-inline-table-open-lts.Need-inline-table-turn-requires (
+on-inline-table-open-action-table-requires :
+    (t : ℕ) → on-inline-table-open-lts.Need-action-table-requires (
       emit-reads.Asked,
       emit-reads.Learnt,
+      action-table-reads.Asked,
+      action-table-reads.Learnt,
       inline-table-turn-reads.Asked,
       inline-table-turn-reads.Learnt,
       on-array-open-below t,
@@ -470,11 +690,50 @@ on-inline-table-open-inline-table-turn-requires :
     on-inline-table-open.Post
     on-inline-table-open-Inv-loop
     on-inline-table-open-μ-loop
-on-inline-table-open-inline-table-turn-requires t c κs = ((c .before .before .loop) .inv .0) .good
+on-inline-table-open-action-table-requires t c κs = search needs
+
+on-inline-table-open-loop-holds : (t : ℕ) → on-inline-table-open-lts.Need-loop-holds (
+  emit-reads.Asked,
+  emit-reads.Learnt,
+  action-table-reads.Asked,
+  action-table-reads.Learnt,
+  inline-table-turn-reads.Asked,
+  inline-table-turn-reads.Learnt,
+  on-array-open-below t,
+  on-array-open.Post,
+  on-inline-table-open-below t,
+  on-inline-table-open.Post,
+)
+    (on-inline-table-open-at t)
+    on-inline-table-open.Post
+    on-inline-table-open-Inv-loop
+    on-inline-table-open-μ-loop
+on-inline-table-open-loop-holds t c = (turns-begun _ _ _ _ ((c .before .before .before .before .before .before .before .before .before .pre) .1), refl, refl, (c .action-table) .ensures)
+
+on-inline-table-open-inline-table-turn-requires :
+    (t : ℕ) → on-inline-table-open-lts.Need-inline-table-turn-requires (
+      emit-reads.Asked,
+      emit-reads.Learnt,
+      action-table-reads.Asked,
+      action-table-reads.Learnt,
+      inline-table-turn-reads.Asked,
+      inline-table-turn-reads.Learnt,
+      on-array-open-below t,
+      on-array-open.Post,
+      on-inline-table-open-below t,
+      on-inline-table-open.Post,
+    )
+    (on-inline-table-open-at t)
+    on-inline-table-open.Post
+    on-inline-table-open-Inv-loop
+    on-inline-table-open-μ-loop
+on-inline-table-open-inline-table-turn-requires t c κs = (((c .before .before .before .loop) .inv .0) .good, (c .before .before .before .loop) .inv .3)
 
 on-inline-table-open-enum-told : (t : ℕ) → on-inline-table-open-lts.Need-enum-told (
   emit-reads.Asked,
   emit-reads.Learnt,
+  action-table-reads.Asked,
+  action-table-reads.Learnt,
   inline-table-turn-reads.Asked,
   inline-table-turn-reads.Learnt,
   on-array-open-below t,
@@ -491,6 +750,8 @@ on-inline-table-open-enum-told t c = search needs
 on-inline-table-open-loop-less : (t : ℕ) → on-inline-table-open-lts.Need-loop-less (
   emit-reads.Asked,
   emit-reads.Learnt,
+  action-table-reads.Asked,
+  action-table-reads.Learnt,
   inline-table-turn-reads.Asked,
   inline-table-turn-reads.Learnt,
   on-array-open-below t,
@@ -502,11 +763,13 @@ on-inline-table-open-loop-less : (t : ℕ) → on-inline-table-open-lts.Need-loo
     on-inline-table-open.Post
     on-inline-table-open-Inv-loop
     on-inline-table-open-μ-loop
-on-inline-table-open-loop-less t c = omega (arith, turn-moved (onOpen ((c .before .before .before .before .before .before .before .before .before .before .before .before .before .before .before .before .before .before .before .before .before .args) .levels - 1)) (λ nest. inlineTableTurn (span ((c .before .before .before .before .before .before .before .before .before .before .before .before .before .before .before .before .before .before .before .before .before .args) .head .start) ((c .before .before .before .before .before .before .before .before .before .before .before .before .before .before .before .before .before .before .before .before .before .args) .head .end)) nest) (λ f g w. refl) ((c .before .before .before .before .before .before .before .before .before .before .before .before .loop) .p) ((c .before .before .before .before .before .before .before .before .before .before .before .before .loop) .inv .0) ((c .before .before .before .before .before .before .before .before .before .inline-table-turn) .result .progress) ((c .before .before .before .before .before .before .before .before .before .inline-table-turn) .ensures) ((c .enum-told) .given .1), (c .before .before .before .before .before .before .before .before .before .inline-table-turn) .ensures .good .low)
+on-inline-table-open-loop-less t c = omega (arith, turn-moved (onOpen ((c .before .before .before .before .before .before .before .before .before .before .before .before .before .before .before .before .before .before .before .before .before .before .before .args) .levels - 1)) (λ nest. inlineTableTurn (span ((c .before .before .before .before .before .before .before .before .before .before .before .before .before .before .before .before .before .before .before .before .before .before .before .args) .head .start) ((c .before .before .before .before .before .before .before .before .before .before .before .before .before .before .before .before .before .before .before .before .before .before .before .args) .head .end)) nest) (λ f g w. refl) ((c .before .before .before .before .before .before .before .before .before .before .before .before .before .loop) .p) ((c .before .before .before .before .before .before .before .before .before .before .before .before .before .loop) .inv .0) ((c .before .before .before .before .before .before .before .before .before .inline-table-turn) .result .progress) ((c .before .before .before .before .before .before .before .before .before .inline-table-turn) .ensures) ((c .enum-told) .given .1), (c .before .before .before .before .before .before .before .before .before .inline-table-turn) .ensures .good .low)
 
 on-inline-table-open-loop-again : (t : ℕ) → on-inline-table-open-lts.Need-loop-again (
   emit-reads.Asked,
   emit-reads.Learnt,
+  action-table-reads.Asked,
+  action-table-reads.Learnt,
   inline-table-turn-reads.Asked,
   inline-table-turn-reads.Learnt,
   on-array-open-below t,
@@ -518,11 +781,13 @@ on-inline-table-open-loop-again : (t : ℕ) → on-inline-table-open-lts.Need-lo
     on-inline-table-open.Post
     on-inline-table-open-Inv-loop
     on-inline-table-open-μ-loop
-on-inline-table-open-loop-again t c = (turn-next (onOpen ((c .before .before .before .before .before .before .before .before .before .before .before .before .before .before .before .before .before .before .before .before .before .args) .levels - 1)) (λ nest. inlineTableTurn (span ((c .before .before .before .before .before .before .before .before .before .before .before .before .before .before .before .before .before .before .before .before .before .args) .head .start) ((c .before .before .before .before .before .before .before .before .before .before .before .before .before .before .before .before .before .before .before .before .before .args) .head .end)) nest) (λ f g w. refl) ((c .before .before .before .before .before .before .before .before .before .before .before .before .loop) .p) ((c .before .before .before .before .before .before .before .before .before .before .before .before .loop) .inv .0) ((c .before .before .before .before .before .before .before .before .before .inline-table-turn) .result .progress) ((c .before .before .before .before .before .before .before .before .before .inline-table-turn) .ensures) ((c .enum-told) .given .1), ((c .before .before .before .before .before .before .before .before .before .inline-table-turn .kept .1 .1 .1 .1 .1 .0)) ∙ (c .before .before .before .before .before .before .before .before .before .before .before .before .loop) .inv .1, ((c .before .before .before .before .before .before .before .before .before .inline-table-turn .kept .1 .1 .1 .1 .1 .1 .0)) ∙ (c .before .before .before .before .before .before .before .before .before .before .before .before .loop) .inv .2)
+on-inline-table-open-loop-again t c = (turn-next (onOpen ((c .before .before .before .before .before .before .before .before .before .before .before .before .before .before .before .before .before .before .before .before .before .before .before .args) .levels - 1)) (λ nest. inlineTableTurn (span ((c .before .before .before .before .before .before .before .before .before .before .before .before .before .before .before .before .before .before .before .before .before .before .before .args) .head .start) ((c .before .before .before .before .before .before .before .before .before .before .before .before .before .before .before .before .before .before .before .before .before .before .before .args) .head .end)) nest) (λ f g w. refl) ((c .before .before .before .before .before .before .before .before .before .before .before .before .before .loop) .p) ((c .before .before .before .before .before .before .before .before .before .before .before .before .before .loop) .inv .0) ((c .before .before .before .before .before .before .before .before .before .inline-table-turn) .result .progress) ((c .before .before .before .before .before .before .before .before .before .inline-table-turn) .ensures) ((c .enum-told) .given .1), ((c .before .before .before .before .before .before .before .before .before .inline-table-turn .kept .1 .1 .1 .1 .1 .1 .0)) ∙ (c .before .before .before .before .before .before .before .before .before .before .before .before .before .loop) .inv .1, ((c .before .before .before .before .before .before .before .before .before .inline-table-turn .kept .1 .1 .1 .1 .1 .1 .1 .0)) ∙ (c .before .before .before .before .before .before .before .before .before .before .before .before .before .loop) .inv .2, (c .before .before .before .before .before .before .before .before .before .before .before .before .before .loop) .inv .3)
 
 on-inline-table-open-enum-told-2 : (t : ℕ) → on-inline-table-open-lts.Need-enum-told-2 (
   emit-reads.Asked,
   emit-reads.Learnt,
+  action-table-reads.Asked,
+  action-table-reads.Learnt,
   inline-table-turn-reads.Asked,
   inline-table-turn-reads.Learnt,
   on-array-open-below t,
@@ -539,6 +804,8 @@ on-inline-table-open-enum-told-2 t c = search needs
 on-inline-table-open-same-length : (t : ℕ) → on-inline-table-open-lts.Need-same-length (
   emit-reads.Asked,
   emit-reads.Learnt,
+  action-table-reads.Asked,
+  action-table-reads.Learnt,
   inline-table-turn-reads.Asked,
   inline-table-turn-reads.Learnt,
   on-array-open-below t,
@@ -550,11 +817,13 @@ on-inline-table-open-same-length : (t : ℕ) → on-inline-table-open-lts.Need-s
     on-inline-table-open.Post
     on-inline-table-open-Inv-loop
     on-inline-table-open-μ-loop
-on-inline-table-open-same-length t c = ((c .before .before .before .before .before .before .before .before .before .inline-table-turn .kept .1 .1 .1 .1 .1 .0)) ∙ (c .before .before .before .before .before .before .before .before .before .before .before .before .loop) .inv .1 ∙ (c .before .before .before .before .before .before .before .before .before .before .before .before .before .before .before .emit) .kept .0
+on-inline-table-open-same-length t c = ((c .before .before .before .before .before .before .before .before .before .inline-table-turn .kept .1 .1 .1 .1 .1 .1 .0)) ∙ (c .before .before .before .before .before .before .before .before .before .before .before .before .before .loop) .inv .1 ∙ (c .before .before .before .before .before .before .before .before .before .before .before .before .before .before .before .before .before .emit) .kept .0
 
 on-inline-table-open-same-length-2 : (t : ℕ) → on-inline-table-open-lts.Need-same-length-2 (
   emit-reads.Asked,
   emit-reads.Learnt,
+  action-table-reads.Asked,
+  action-table-reads.Learnt,
   inline-table-turn-reads.Asked,
   inline-table-turn-reads.Learnt,
   on-array-open-below t,
@@ -566,11 +835,13 @@ on-inline-table-open-same-length-2 : (t : ℕ) → on-inline-table-open-lts.Need
     on-inline-table-open.Post
     on-inline-table-open-Inv-loop
     on-inline-table-open-μ-loop
-on-inline-table-open-same-length-2 t c = ((c .before .before .before .before .before .before .before .before .before .inline-table-turn .kept .1 .1 .1 .1 .1 .1 .0)) ∙ (c .before .before .before .before .before .before .before .before .before .before .before .before .loop) .inv .2
+on-inline-table-open-same-length-2 t c = ((c .before .before .before .before .before .before .before .before .before .inline-table-turn .kept .1 .1 .1 .1 .1 .1 .1 .0)) ∙ (c .before .before .before .before .before .before .before .before .before .before .before .before .before .loop) .inv .2
 
 on-inline-table-open-returns-2 : (t : ℕ) → on-inline-table-open-lts.Need-returns-2 (
   emit-reads.Asked,
   emit-reads.Learnt,
+  action-table-reads.Asked,
+  action-table-reads.Learnt,
   inline-table-turn-reads.Asked,
   inline-table-turn-reads.Learnt,
   on-array-open-below t,
@@ -582,11 +853,13 @@ on-inline-table-open-returns-2 : (t : ℕ) → on-inline-table-open-lts.Need-ret
     on-inline-table-open.Post
     on-inline-table-open-Inv-loop
     on-inline-table-open-μ-loop
-on-inline-table-open-returns-2 t c = nested-as (open-table ((c .before .before .before .before .before .before .before .before .before .before .before .before .before .before .before .before .before .before .before .before .before .args) .levels) _ _ _ ((c .before .before .before .before .before .before .before .before .before .before .before .before .before .before .before .before .before .if1) .left)) (nested-item _ _ (λ all. (c .before .before .before .before .before .before .before .before .before .before .before .before .before .before .before .emit) .ensures all _) (turn-over (onOpen ((c .before .before .before .before .before .before .before .before .before .before .before .before .before .before .before .before .before .before .before .before .before .args) .levels - 1)) (λ nest. inlineTableTurn (span ((c .before .before .before .before .before .before .before .before .before .before .before .before .before .before .before .before .before .before .before .before .before .args) .head .start) ((c .before .before .before .before .before .before .before .before .before .before .before .before .before .before .before .before .before .before .before .before .before .args) .head .end)) nest) (λ f g w. refl) ((c .before .before .before .before .before .before .before .before .before .before .before .before .loop) .p) ((c .before .before .before .before .before .before .before .before .before .before .before .before .loop) .inv .0) ((c .before .before .before .before .before .before .before .before .before .inline-table-turn) .result .progress) ((c .before .before .before .before .before .before .before .before .before .inline-table-turn) .ensures) ((c .enum-told2) .given .1)))
+on-inline-table-open-returns-2 t c = nested-as (open-table ((c .before .before .before .before .before .before .before .before .before .before .before .before .before .before .before .before .before .before .before .before .before .before .before .args) .levels) _ _ _ ((c .before .before .before .before .before .before .before .before .before .before .before .before .before .before .before .before .before .before .before .if1) .left)) (nested-item _ _ (λ all. (c .before .before .before .before .before .before .before .before .before .before .before .before .before .before .before .before .before .emit) .ensures all _) (turn-over (onOpen ((c .before .before .before .before .before .before .before .before .before .before .before .before .before .before .before .before .before .before .before .before .before .before .before .args) .levels - 1)) (λ nest. inlineTableTurn (span ((c .before .before .before .before .before .before .before .before .before .before .before .before .before .before .before .before .before .before .before .before .before .before .before .args) .head .start) ((c .before .before .before .before .before .before .before .before .before .before .before .before .before .before .before .before .before .before .before .before .before .before .before .args) .head .end)) nest) (λ f g w. refl) ((c .before .before .before .before .before .before .before .before .before .before .before .before .before .loop) .p) ((c .before .before .before .before .before .before .before .before .before .before .before .before .before .loop) .inv .0) ((c .before .before .before .before .before .before .before .before .before .inline-table-turn) .result .progress) ((c .before .before .before .before .before .before .before .before .before .inline-table-turn) .ensures) ((c .enum-told2) .given .1)))
 
 on-inline-table-open-enum-known-x : (t : ℕ) → on-inline-table-open-lts.Need-enum-known-x (
   emit-reads.Asked,
   emit-reads.Learnt,
+  action-table-reads.Asked,
+  action-table-reads.Learnt,
   inline-table-turn-reads.Asked,
   inline-table-turn-reads.Learnt,
   on-array-open-below t,
@@ -603,6 +876,8 @@ on-inline-table-open-enum-known-x t c = search needs
 on-inline-table-open-sub-on-array-open : (t : ℕ) → on-inline-table-open-lts.Need-sub-on-array-open (
   emit-reads.Asked,
   emit-reads.Learnt,
+  action-table-reads.Asked,
+  action-table-reads.Learnt,
   inline-table-turn-reads.Asked,
   inline-table-turn-reads.Learnt,
   on-array-open-below t,
@@ -614,12 +889,14 @@ on-inline-table-open-sub-on-array-open : (t : ℕ) → on-inline-table-open-lts.
     on-inline-table-open.Post
     on-inline-table-open-Inv-loop
     on-inline-table-open-μ-loop
-on-inline-table-open-sub-on-array-open t c = omega (arith, (c .before .before .before .before .before .before .before .before .before .before .before .before .before .before .before .before .before .before .if1) .left)
+on-inline-table-open-sub-on-array-open t c = omega (arith, (c .before .before .before .before .before .before .before .before .before .before .before .before .before .before .before .before .before .before .before .before .if1) .left)
 
 on-inline-table-open-on-array-open-requires :
     (t : ℕ) → on-inline-table-open-lts.Need-on-array-open-requires (
       emit-reads.Asked,
       emit-reads.Learnt,
+      action-table-reads.Asked,
+      action-table-reads.Learnt,
       inline-table-turn-reads.Asked,
       inline-table-turn-reads.Learnt,
       on-array-open-below t,
@@ -631,11 +908,13 @@ on-inline-table-open-on-array-open-requires :
     on-inline-table-open.Post
     on-inline-table-open-Inv-loop
     on-inline-table-open-μ-loop
-on-inline-table-open-on-array-open-requires t c κs = (omega (arith, (c .before .before .before .before .before .before .before .before .before .before .before .before .before .before .before .before .before .before .before .before .if1) .left, (c .before .before .before .before .before .before .before .before .before .before .before .before .before .before .before .before .before .before .before .before .before .before .before .before .pre) .0), (c .before .before .before .before .before .before .before .before .before .before .before .before .inline-table-turn) .ensures .good)
+on-inline-table-open-on-array-open-requires t c κs = (omega (arith, (c .before .before .before .before .before .before .before .before .before .before .before .before .before .before .before .before .before .before .before .before .before .before .if1) .left, (c .before .before .before .before .before .before .before .before .before .before .before .before .before .before .before .before .before .before .before .before .before .before .before .before .before .before .pre) .0), (c .before .before .before .before .before .before .before .before .before .before .before .before .inline-table-turn) .ensures .good)
 
 on-inline-table-open-same-length-3 : (t : ℕ) → on-inline-table-open-lts.Need-same-length-3 (
   emit-reads.Asked,
   emit-reads.Learnt,
+  action-table-reads.Asked,
+  action-table-reads.Learnt,
   inline-table-turn-reads.Asked,
   inline-table-turn-reads.Learnt,
   on-array-open-below t,
@@ -647,11 +926,13 @@ on-inline-table-open-same-length-3 : (t : ℕ) → on-inline-table-open-lts.Need
     on-inline-table-open.Post
     on-inline-table-open-Inv-loop
     on-inline-table-open-μ-loop
-on-inline-table-open-same-length-3 t c = ((c .before .before .before .before .before .on-array-open .kept .1 .1 .1 .1 .1 .0) ∙ (c .before .before .before .before .before .before .before .before .before .before .before .before .before .before .before .before .before .before .inline-table-turn .kept .1 .1 .1 .1 .1 .0)) ∙ (c .before .before .before .before .before .before .before .before .before .before .before .before .before .before .before .before .before .before .before .before .before .loop) .inv .1 ∙ (c .before .before .before .before .before .before .before .before .before .before .before .before .before .before .before .before .before .before .before .before .before .before .before .before .emit) .kept .0
+on-inline-table-open-same-length-3 t c = ((c .before .before .before .before .before .on-array-open .kept .1 .1 .1 .1 .1 .0) ∙ (c .before .before .before .before .before .before .before .before .before .before .before .before .before .before .before .before .before .before .inline-table-turn .kept .1 .1 .1 .1 .1 .1 .0)) ∙ (c .before .before .before .before .before .before .before .before .before .before .before .before .before .before .before .before .before .before .before .before .before .before .loop) .inv .1 ∙ (c .before .before .before .before .before .before .before .before .before .before .before .before .before .before .before .before .before .before .before .before .before .before .before .before .before .before .emit) .kept .0
 
 on-inline-table-open-same-length-4 : (t : ℕ) → on-inline-table-open-lts.Need-same-length-4 (
   emit-reads.Asked,
   emit-reads.Learnt,
+  action-table-reads.Asked,
+  action-table-reads.Learnt,
   inline-table-turn-reads.Asked,
   inline-table-turn-reads.Learnt,
   on-array-open-below t,
@@ -663,11 +944,13 @@ on-inline-table-open-same-length-4 : (t : ℕ) → on-inline-table-open-lts.Need
     on-inline-table-open.Post
     on-inline-table-open-Inv-loop
     on-inline-table-open-μ-loop
-on-inline-table-open-same-length-4 t c = ((c .before .before .before .before .before .on-array-open .kept .1 .1 .1 .1 .1 .1 .0) ∙ (c .before .before .before .before .before .before .before .before .before .before .before .before .before .before .before .before .before .before .inline-table-turn .kept .1 .1 .1 .1 .1 .1 .0)) ∙ (c .before .before .before .before .before .before .before .before .before .before .before .before .before .before .before .before .before .before .before .before .before .loop) .inv .2
+on-inline-table-open-same-length-4 t c = ((c .before .before .before .before .before .on-array-open .kept .1 .1 .1 .1 .1 .1 .0) ∙ (c .before .before .before .before .before .before .before .before .before .before .before .before .before .before .before .before .before .before .inline-table-turn .kept .1 .1 .1 .1 .1 .1 .1 .0)) ∙ (c .before .before .before .before .before .before .before .before .before .before .before .before .before .before .before .before .before .before .before .before .before .before .loop) .inv .2
 
 on-inline-table-open-returns-3 : (t : ℕ) → on-inline-table-open-lts.Need-returns-3 (
   emit-reads.Asked,
   emit-reads.Learnt,
+  action-table-reads.Asked,
+  action-table-reads.Learnt,
   inline-table-turn-reads.Asked,
   inline-table-turn-reads.Learnt,
   on-array-open-below t,
@@ -679,11 +962,13 @@ on-inline-table-open-returns-3 : (t : ℕ) → on-inline-table-open-lts.Need-ret
     on-inline-table-open.Post
     on-inline-table-open-Inv-loop
     on-inline-table-open-μ-loop
-on-inline-table-open-returns-3 t c = nested-as (open-table ((c .before .before .before .before .before .before .before .before .before .before .before .before .before .before .before .before .before .before .before .before .before .before .before .before .before .before .before .before .before .before .args) .levels) _ _ _ ((c .before .before .before .before .before .before .before .before .before .before .before .before .before .before .before .before .before .before .before .before .before .before .before .before .before .before .if1) .left)) (nested-item _ _ (λ all. (c .before .before .before .before .before .before .before .before .before .before .before .before .before .before .before .before .before .before .before .before .before .before .before .before .emit) .ensures all _) (array-stop (onOpen ((c .before .before .before .before .before .before .before .before .before .before .before .before .before .before .before .before .before .before .before .before .before .before .before .before .before .before .before .before .before .before .args) .levels - 1)) (λ nest. inlineTableTurn (span ((c .before .before .before .before .before .before .before .before .before .before .before .before .before .before .before .before .before .before .before .before .before .before .before .before .before .before .before .before .before .before .args) .head .start) ((c .before .before .before .before .before .before .before .before .before .before .before .before .before .before .before .before .before .before .before .before .before .before .before .before .before .before .before .before .before .before .args) .head .end)) nest) (λ f g w. refl) ((c .before .before .before .before .before .before .before .before .before .before .before .before .before .before .before .before .before .before .before .before .before .loop) .p) ((c .before .before .before .before .before .before .before .before .before .before .before .before .before .before .before .before .before .before .before .before .before .loop) .inv .0) ((c .before .before .before .before .before .before .before .before .before .before .before .before .before .before .before .before .before .before .inline-table-turn) .result .progress) ((c .before .before .before .before .before .before .before .before .before .before .before .before .before .before .before .before .before .before .inline-table-turn) .ensures) _ ((c .before .before .before .before .before .before .before .before .before .x) .given .1) ((c .before .before .before .before .before .on-array-open) .ensures) ((c .if2) .taken)))
+on-inline-table-open-returns-3 t c = nested-as (open-table ((c .before .before .before .before .before .before .before .before .before .before .before .before .before .before .before .before .before .before .before .before .before .before .before .before .before .before .before .before .before .before .before .before .args) .levels) _ _ _ ((c .before .before .before .before .before .before .before .before .before .before .before .before .before .before .before .before .before .before .before .before .before .before .before .before .before .before .before .before .if1) .left)) (nested-item _ _ (λ all. (c .before .before .before .before .before .before .before .before .before .before .before .before .before .before .before .before .before .before .before .before .before .before .before .before .before .before .emit) .ensures all _) (array-stop (onOpen ((c .before .before .before .before .before .before .before .before .before .before .before .before .before .before .before .before .before .before .before .before .before .before .before .before .before .before .before .before .before .before .before .before .args) .levels - 1)) (λ nest. inlineTableTurn (span ((c .before .before .before .before .before .before .before .before .before .before .before .before .before .before .before .before .before .before .before .before .before .before .before .before .before .before .before .before .before .before .before .before .args) .head .start) ((c .before .before .before .before .before .before .before .before .before .before .before .before .before .before .before .before .before .before .before .before .before .before .before .before .before .before .before .before .before .before .before .before .args) .head .end)) nest) (λ f g w. refl) ((c .before .before .before .before .before .before .before .before .before .before .before .before .before .before .before .before .before .before .before .before .before .before .loop) .p) ((c .before .before .before .before .before .before .before .before .before .before .before .before .before .before .before .before .before .before .before .before .before .before .loop) .inv .0) ((c .before .before .before .before .before .before .before .before .before .before .before .before .before .before .before .before .before .before .inline-table-turn) .result .progress) ((c .before .before .before .before .before .before .before .before .before .before .before .before .before .before .before .before .before .before .inline-table-turn) .ensures) _ ((c .before .before .before .before .before .before .before .before .before .x) .given .1) ((c .before .before .before .before .before .on-array-open) .ensures) ((c .if2) .taken)))
 
 on-inline-table-open-loop-less-2 : (t : ℕ) → on-inline-table-open-lts.Need-loop-less-2 (
   emit-reads.Asked,
   emit-reads.Learnt,
+  action-table-reads.Asked,
+  action-table-reads.Learnt,
   inline-table-turn-reads.Asked,
   inline-table-turn-reads.Learnt,
   on-array-open-below t,
@@ -695,11 +980,13 @@ on-inline-table-open-loop-less-2 : (t : ℕ) → on-inline-table-open-lts.Need-l
     on-inline-table-open.Post
     on-inline-table-open-Inv-loop
     on-inline-table-open-μ-loop
-on-inline-table-open-loop-less-2 t c = omega (arith, array-moved (onOpen ((c .before .before .before .before .before .before .before .before .before .before .before .before .before .before .before .before .before .before .before .before .before .before .before .before .before .before .before .before .before .before .before .before .args) .levels - 1)) (λ nest. inlineTableTurn (span ((c .before .before .before .before .before .before .before .before .before .before .before .before .before .before .before .before .before .before .before .before .before .before .before .before .before .before .before .before .before .before .before .before .args) .head .start) ((c .before .before .before .before .before .before .before .before .before .before .before .before .before .before .before .before .before .before .before .before .before .before .before .before .before .before .before .before .before .before .before .before .args) .head .end)) nest) (λ f g w. refl) ((c .before .before .before .before .before .before .before .before .before .before .before .before .before .before .before .before .before .before .before .before .before .before .before .loop) .p) ((c .before .before .before .before .before .before .before .before .before .before .before .before .before .before .before .before .before .before .before .before .before .before .before .loop) .inv .0) ((c .before .before .before .before .before .before .before .before .before .before .before .before .before .before .before .before .before .before .before .before .inline-table-turn) .result .progress) ((c .before .before .before .before .before .before .before .before .before .before .before .before .before .before .before .before .before .before .before .before .inline-table-turn) .ensures) _ ((c .before .before .before .before .before .before .before .before .before .before .before .x) .given .1), (c .before .before .before .before .before .before .before .on-array-open) .ensures .on, (c .before .before .before .before .before .before .before .on-array-open) .ensures .good .low)
+on-inline-table-open-loop-less-2 t c = omega (arith, array-moved (onOpen ((c .before .before .before .before .before .before .before .before .before .before .before .before .before .before .before .before .before .before .before .before .before .before .before .before .before .before .before .before .before .before .before .before .before .before .args) .levels - 1)) (λ nest. inlineTableTurn (span ((c .before .before .before .before .before .before .before .before .before .before .before .before .before .before .before .before .before .before .before .before .before .before .before .before .before .before .before .before .before .before .before .before .before .before .args) .head .start) ((c .before .before .before .before .before .before .before .before .before .before .before .before .before .before .before .before .before .before .before .before .before .before .before .before .before .before .before .before .before .before .before .before .before .before .args) .head .end)) nest) (λ f g w. refl) ((c .before .before .before .before .before .before .before .before .before .before .before .before .before .before .before .before .before .before .before .before .before .before .before .before .loop) .p) ((c .before .before .before .before .before .before .before .before .before .before .before .before .before .before .before .before .before .before .before .before .before .before .before .before .loop) .inv .0) ((c .before .before .before .before .before .before .before .before .before .before .before .before .before .before .before .before .before .before .before .before .inline-table-turn) .result .progress) ((c .before .before .before .before .before .before .before .before .before .before .before .before .before .before .before .before .before .before .before .before .inline-table-turn) .ensures) _ ((c .before .before .before .before .before .before .before .before .before .before .before .x) .given .1), (c .before .before .before .before .before .before .before .on-array-open) .ensures .on, (c .before .before .before .before .before .before .before .on-array-open) .ensures .good .low)
 
 on-inline-table-open-loop-again-2 : (t : ℕ) → on-inline-table-open-lts.Need-loop-again-2 (
   emit-reads.Asked,
   emit-reads.Learnt,
+  action-table-reads.Asked,
+  action-table-reads.Learnt,
   inline-table-turn-reads.Asked,
   inline-table-turn-reads.Learnt,
   on-array-open-below t,
@@ -711,11 +998,13 @@ on-inline-table-open-loop-again-2 : (t : ℕ) → on-inline-table-open-lts.Need-
     on-inline-table-open.Post
     on-inline-table-open-Inv-loop
     on-inline-table-open-μ-loop
-on-inline-table-open-loop-again-2 t c = (array-again (onOpen ((c .before .before .before .before .before .before .before .before .before .before .before .before .before .before .before .before .before .before .before .before .before .before .before .before .before .before .before .before .before .before .before .before .args) .levels - 1)) (λ nest. inlineTableTurn (span ((c .before .before .before .before .before .before .before .before .before .before .before .before .before .before .before .before .before .before .before .before .before .before .before .before .before .before .before .before .before .before .before .before .args) .head .start) ((c .before .before .before .before .before .before .before .before .before .before .before .before .before .before .before .before .before .before .before .before .before .before .before .before .before .before .before .before .before .before .before .before .args) .head .end)) nest) (λ f g w. refl) ((c .before .before .before .before .before .before .before .before .before .before .before .before .before .before .before .before .before .before .before .before .before .before .before .loop) .p) ((c .before .before .before .before .before .before .before .before .before .before .before .before .before .before .before .before .before .before .before .before .before .before .before .loop) .inv .0) ((c .before .before .before .before .before .before .before .before .before .before .before .before .before .before .before .before .before .before .before .before .inline-table-turn) .result .progress) ((c .before .before .before .before .before .before .before .before .before .before .before .before .before .before .before .before .before .before .before .before .inline-table-turn) .ensures) _ ((c .before .before .before .before .before .before .before .before .before .before .before .x) .given .1) ((c .before .before .before .before .before .before .before .on-array-open) .ensures) ((c .before .before .if2) .left), ((c .before .before .before .before .before .before .before .on-array-open .kept .1 .1 .1 .1 .1 .0) ∙ (c .before .before .before .before .before .before .before .before .before .before .before .before .before .before .before .before .before .before .before .before .inline-table-turn .kept .1 .1 .1 .1 .1 .0)) ∙ (c .before .before .before .before .before .before .before .before .before .before .before .before .before .before .before .before .before .before .before .before .before .before .before .loop) .inv .1, ((c .before .before .before .before .before .before .before .on-array-open .kept .1 .1 .1 .1 .1 .1 .0) ∙ (c .before .before .before .before .before .before .before .before .before .before .before .before .before .before .before .before .before .before .before .before .inline-table-turn .kept .1 .1 .1 .1 .1 .1 .0)) ∙ (c .before .before .before .before .before .before .before .before .before .before .before .before .before .before .before .before .before .before .before .before .before .before .before .loop) .inv .2)
+on-inline-table-open-loop-again-2 t c = (array-again (onOpen ((c .before .before .before .before .before .before .before .before .before .before .before .before .before .before .before .before .before .before .before .before .before .before .before .before .before .before .before .before .before .before .before .before .before .before .args) .levels - 1)) (λ nest. inlineTableTurn (span ((c .before .before .before .before .before .before .before .before .before .before .before .before .before .before .before .before .before .before .before .before .before .before .before .before .before .before .before .before .before .before .before .before .before .before .args) .head .start) ((c .before .before .before .before .before .before .before .before .before .before .before .before .before .before .before .before .before .before .before .before .before .before .before .before .before .before .before .before .before .before .before .before .before .before .args) .head .end)) nest) (λ f g w. refl) ((c .before .before .before .before .before .before .before .before .before .before .before .before .before .before .before .before .before .before .before .before .before .before .before .before .loop) .p) ((c .before .before .before .before .before .before .before .before .before .before .before .before .before .before .before .before .before .before .before .before .before .before .before .before .loop) .inv .0) ((c .before .before .before .before .before .before .before .before .before .before .before .before .before .before .before .before .before .before .before .before .inline-table-turn) .result .progress) ((c .before .before .before .before .before .before .before .before .before .before .before .before .before .before .before .before .before .before .before .before .inline-table-turn) .ensures) _ ((c .before .before .before .before .before .before .before .before .before .before .before .x) .given .1) ((c .before .before .before .before .before .before .before .on-array-open) .ensures) ((c .before .before .if2) .left), ((c .before .before .before .before .before .before .before .on-array-open .kept .1 .1 .1 .1 .1 .0) ∙ (c .before .before .before .before .before .before .before .before .before .before .before .before .before .before .before .before .before .before .before .before .inline-table-turn .kept .1 .1 .1 .1 .1 .1 .0)) ∙ (c .before .before .before .before .before .before .before .before .before .before .before .before .before .before .before .before .before .before .before .before .before .before .before .before .loop) .inv .1, ((c .before .before .before .before .before .before .before .on-array-open .kept .1 .1 .1 .1 .1 .1 .0) ∙ (c .before .before .before .before .before .before .before .before .before .before .before .before .before .before .before .before .before .before .before .before .inline-table-turn .kept .1 .1 .1 .1 .1 .1 .1 .0)) ∙ (c .before .before .before .before .before .before .before .before .before .before .before .before .before .before .before .before .before .before .before .before .before .before .before .before .loop) .inv .2, (c .before .before .before .before .before .before .before .before .before .before .before .before .before .before .before .before .before .before .before .before .before .before .before .before .loop) .inv .3)
 
 on-inline-table-open-enum-known-x-2 : (t : ℕ) → on-inline-table-open-lts.Need-enum-known-x-2 (
   emit-reads.Asked,
   emit-reads.Learnt,
+  action-table-reads.Asked,
+  action-table-reads.Learnt,
   inline-table-turn-reads.Asked,
   inline-table-turn-reads.Learnt,
   on-array-open-below t,
@@ -733,6 +1022,8 @@ on-inline-table-open-sub-on-inline-table-open :
     (t : ℕ) → on-inline-table-open-lts.Need-sub-on-inline-table-open (
       emit-reads.Asked,
       emit-reads.Learnt,
+      action-table-reads.Asked,
+      action-table-reads.Learnt,
       inline-table-turn-reads.Asked,
       inline-table-turn-reads.Learnt,
       on-array-open-below t,
@@ -744,12 +1035,14 @@ on-inline-table-open-sub-on-inline-table-open :
     on-inline-table-open.Post
     on-inline-table-open-Inv-loop
     on-inline-table-open-μ-loop
-on-inline-table-open-sub-on-inline-table-open t c = omega (arith, (c .before .before .before .before .before .before .before .before .before .before .before .before .before .before .before .before .before .before .if1) .left)
+on-inline-table-open-sub-on-inline-table-open t c = omega (arith, (c .before .before .before .before .before .before .before .before .before .before .before .before .before .before .before .before .before .before .before .before .if1) .left)
 
 on-inline-table-open-on-inline-table-open-requires :
     (t : ℕ) → on-inline-table-open-lts.Need-on-inline-table-open-requires (
       emit-reads.Asked,
       emit-reads.Learnt,
+      action-table-reads.Asked,
+      action-table-reads.Learnt,
       inline-table-turn-reads.Asked,
       inline-table-turn-reads.Learnt,
       on-array-open-below t,
@@ -761,11 +1054,13 @@ on-inline-table-open-on-inline-table-open-requires :
     on-inline-table-open.Post
     on-inline-table-open-Inv-loop
     on-inline-table-open-μ-loop
-on-inline-table-open-on-inline-table-open-requires t c κs = (omega (arith, (c .before .before .before .before .before .before .before .before .before .before .before .before .before .before .before .before .before .before .before .before .if1) .left, (c .before .before .before .before .before .before .before .before .before .before .before .before .before .before .before .before .before .before .before .before .before .before .before .before .pre) .0), (c .before .before .before .before .before .before .before .before .before .before .before .before .inline-table-turn) .ensures .good)
+on-inline-table-open-on-inline-table-open-requires t c κs = (omega (arith, (c .before .before .before .before .before .before .before .before .before .before .before .before .before .before .before .before .before .before .before .before .before .before .if1) .left, (c .before .before .before .before .before .before .before .before .before .before .before .before .before .before .before .before .before .before .before .before .before .before .before .before .before .before .pre) .0), (c .before .before .before .before .before .before .before .before .before .before .before .before .inline-table-turn) .ensures .good)
 
 on-inline-table-open-same-length-5 : (t : ℕ) → on-inline-table-open-lts.Need-same-length-5 (
   emit-reads.Asked,
   emit-reads.Learnt,
+  action-table-reads.Asked,
+  action-table-reads.Learnt,
   inline-table-turn-reads.Asked,
   inline-table-turn-reads.Learnt,
   on-array-open-below t,
@@ -777,11 +1072,13 @@ on-inline-table-open-same-length-5 : (t : ℕ) → on-inline-table-open-lts.Need
     on-inline-table-open.Post
     on-inline-table-open-Inv-loop
     on-inline-table-open-μ-loop
-on-inline-table-open-same-length-5 t c = ((c .before .before .before .before .before .on-inline-table-open .kept .1 .1 .1 .1 .1 .0) ∙ (c .before .before .before .before .before .before .before .before .before .before .before .before .before .before .before .before .before .before .inline-table-turn .kept .1 .1 .1 .1 .1 .0)) ∙ (c .before .before .before .before .before .before .before .before .before .before .before .before .before .before .before .before .before .before .before .before .before .loop) .inv .1 ∙ (c .before .before .before .before .before .before .before .before .before .before .before .before .before .before .before .before .before .before .before .before .before .before .before .before .emit) .kept .0
+on-inline-table-open-same-length-5 t c = ((c .before .before .before .before .before .on-inline-table-open .kept .1 .1 .1 .1 .1 .0) ∙ (c .before .before .before .before .before .before .before .before .before .before .before .before .before .before .before .before .before .before .inline-table-turn .kept .1 .1 .1 .1 .1 .1 .0)) ∙ (c .before .before .before .before .before .before .before .before .before .before .before .before .before .before .before .before .before .before .before .before .before .before .loop) .inv .1 ∙ (c .before .before .before .before .before .before .before .before .before .before .before .before .before .before .before .before .before .before .before .before .before .before .before .before .before .before .emit) .kept .0
 
 on-inline-table-open-same-length-6 : (t : ℕ) → on-inline-table-open-lts.Need-same-length-6 (
   emit-reads.Asked,
   emit-reads.Learnt,
+  action-table-reads.Asked,
+  action-table-reads.Learnt,
   inline-table-turn-reads.Asked,
   inline-table-turn-reads.Learnt,
   on-array-open-below t,
@@ -793,11 +1090,13 @@ on-inline-table-open-same-length-6 : (t : ℕ) → on-inline-table-open-lts.Need
     on-inline-table-open.Post
     on-inline-table-open-Inv-loop
     on-inline-table-open-μ-loop
-on-inline-table-open-same-length-6 t c = ((c .before .before .before .before .before .on-inline-table-open .kept .1 .1 .1 .1 .1 .1 .0) ∙ (c .before .before .before .before .before .before .before .before .before .before .before .before .before .before .before .before .before .before .inline-table-turn .kept .1 .1 .1 .1 .1 .1 .0)) ∙ (c .before .before .before .before .before .before .before .before .before .before .before .before .before .before .before .before .before .before .before .before .before .loop) .inv .2
+on-inline-table-open-same-length-6 t c = ((c .before .before .before .before .before .on-inline-table-open .kept .1 .1 .1 .1 .1 .1 .0) ∙ (c .before .before .before .before .before .before .before .before .before .before .before .before .before .before .before .before .before .before .inline-table-turn .kept .1 .1 .1 .1 .1 .1 .1 .0)) ∙ (c .before .before .before .before .before .before .before .before .before .before .before .before .before .before .before .before .before .before .before .before .before .before .loop) .inv .2
 
 on-inline-table-open-returns-4 : (t : ℕ) → on-inline-table-open-lts.Need-returns-4 (
   emit-reads.Asked,
   emit-reads.Learnt,
+  action-table-reads.Asked,
+  action-table-reads.Learnt,
   inline-table-turn-reads.Asked,
   inline-table-turn-reads.Learnt,
   on-array-open-below t,
@@ -809,11 +1108,13 @@ on-inline-table-open-returns-4 : (t : ℕ) → on-inline-table-open-lts.Need-ret
     on-inline-table-open.Post
     on-inline-table-open-Inv-loop
     on-inline-table-open-μ-loop
-on-inline-table-open-returns-4 t c = nested-as (open-table ((c .before .before .before .before .before .before .before .before .before .before .before .before .before .before .before .before .before .before .before .before .before .before .before .before .before .before .before .before .before .before .args) .levels) _ _ _ ((c .before .before .before .before .before .before .before .before .before .before .before .before .before .before .before .before .before .before .before .before .before .before .before .before .before .before .if1) .left)) (nested-item _ _ (λ all. (c .before .before .before .before .before .before .before .before .before .before .before .before .before .before .before .before .before .before .before .before .before .before .before .before .emit) .ensures all _) (table-stop (onOpen ((c .before .before .before .before .before .before .before .before .before .before .before .before .before .before .before .before .before .before .before .before .before .before .before .before .before .before .before .before .before .before .args) .levels - 1)) (λ nest. inlineTableTurn (span ((c .before .before .before .before .before .before .before .before .before .before .before .before .before .before .before .before .before .before .before .before .before .before .before .before .before .before .before .before .before .before .args) .head .start) ((c .before .before .before .before .before .before .before .before .before .before .before .before .before .before .before .before .before .before .before .before .before .before .before .before .before .before .before .before .before .before .args) .head .end)) nest) (λ f g w. refl) ((c .before .before .before .before .before .before .before .before .before .before .before .before .before .before .before .before .before .before .before .before .before .loop) .p) ((c .before .before .before .before .before .before .before .before .before .before .before .before .before .before .before .before .before .before .before .before .before .loop) .inv .0) ((c .before .before .before .before .before .before .before .before .before .before .before .before .before .before .before .before .before .before .inline-table-turn) .result .progress) ((c .before .before .before .before .before .before .before .before .before .before .before .before .before .before .before .before .before .before .inline-table-turn) .ensures) _ ((c .before .before .before .before .before .before .before .before .before .x2) .given .1) ((c .before .before .before .before .before .on-inline-table-open) .ensures) ((c .if3) .taken)))
+on-inline-table-open-returns-4 t c = nested-as (open-table ((c .before .before .before .before .before .before .before .before .before .before .before .before .before .before .before .before .before .before .before .before .before .before .before .before .before .before .before .before .before .before .before .before .args) .levels) _ _ _ ((c .before .before .before .before .before .before .before .before .before .before .before .before .before .before .before .before .before .before .before .before .before .before .before .before .before .before .before .before .if1) .left)) (nested-item _ _ (λ all. (c .before .before .before .before .before .before .before .before .before .before .before .before .before .before .before .before .before .before .before .before .before .before .before .before .before .before .emit) .ensures all _) (table-stop (onOpen ((c .before .before .before .before .before .before .before .before .before .before .before .before .before .before .before .before .before .before .before .before .before .before .before .before .before .before .before .before .before .before .before .before .args) .levels - 1)) (λ nest. inlineTableTurn (span ((c .before .before .before .before .before .before .before .before .before .before .before .before .before .before .before .before .before .before .before .before .before .before .before .before .before .before .before .before .before .before .before .before .args) .head .start) ((c .before .before .before .before .before .before .before .before .before .before .before .before .before .before .before .before .before .before .before .before .before .before .before .before .before .before .before .before .before .before .before .before .args) .head .end)) nest) (λ f g w. refl) ((c .before .before .before .before .before .before .before .before .before .before .before .before .before .before .before .before .before .before .before .before .before .before .loop) .p) ((c .before .before .before .before .before .before .before .before .before .before .before .before .before .before .before .before .before .before .before .before .before .before .loop) .inv .0) ((c .before .before .before .before .before .before .before .before .before .before .before .before .before .before .before .before .before .before .inline-table-turn) .result .progress) ((c .before .before .before .before .before .before .before .before .before .before .before .before .before .before .before .before .before .before .inline-table-turn) .ensures) _ ((c .before .before .before .before .before .before .before .before .before .x2) .given .1) ((c .before .before .before .before .before .on-inline-table-open) .ensures) ((c .if3) .taken)))
 
 on-inline-table-open-loop-less-3 : (t : ℕ) → on-inline-table-open-lts.Need-loop-less-3 (
   emit-reads.Asked,
   emit-reads.Learnt,
+  action-table-reads.Asked,
+  action-table-reads.Learnt,
   inline-table-turn-reads.Asked,
   inline-table-turn-reads.Learnt,
   on-array-open-below t,
@@ -825,11 +1126,13 @@ on-inline-table-open-loop-less-3 : (t : ℕ) → on-inline-table-open-lts.Need-l
     on-inline-table-open.Post
     on-inline-table-open-Inv-loop
     on-inline-table-open-μ-loop
-on-inline-table-open-loop-less-3 t c = omega (arith, table-moved (onOpen ((c .before .before .before .before .before .before .before .before .before .before .before .before .before .before .before .before .before .before .before .before .before .before .before .before .before .before .before .before .before .before .before .before .args) .levels - 1)) (λ nest. inlineTableTurn (span ((c .before .before .before .before .before .before .before .before .before .before .before .before .before .before .before .before .before .before .before .before .before .before .before .before .before .before .before .before .before .before .before .before .args) .head .start) ((c .before .before .before .before .before .before .before .before .before .before .before .before .before .before .before .before .before .before .before .before .before .before .before .before .before .before .before .before .before .before .before .before .args) .head .end)) nest) (λ f g w. refl) ((c .before .before .before .before .before .before .before .before .before .before .before .before .before .before .before .before .before .before .before .before .before .before .before .loop) .p) ((c .before .before .before .before .before .before .before .before .before .before .before .before .before .before .before .before .before .before .before .before .before .before .before .loop) .inv .0) ((c .before .before .before .before .before .before .before .before .before .before .before .before .before .before .before .before .before .before .before .before .inline-table-turn) .result .progress) ((c .before .before .before .before .before .before .before .before .before .before .before .before .before .before .before .before .before .before .before .before .inline-table-turn) .ensures) _ ((c .before .before .before .before .before .before .before .before .before .before .before .x2) .given .1), (c .before .before .before .before .before .before .before .on-inline-table-open) .ensures .on, (c .before .before .before .before .before .before .before .on-inline-table-open) .ensures .good .low)
+on-inline-table-open-loop-less-3 t c = omega (arith, table-moved (onOpen ((c .before .before .before .before .before .before .before .before .before .before .before .before .before .before .before .before .before .before .before .before .before .before .before .before .before .before .before .before .before .before .before .before .before .before .args) .levels - 1)) (λ nest. inlineTableTurn (span ((c .before .before .before .before .before .before .before .before .before .before .before .before .before .before .before .before .before .before .before .before .before .before .before .before .before .before .before .before .before .before .before .before .before .before .args) .head .start) ((c .before .before .before .before .before .before .before .before .before .before .before .before .before .before .before .before .before .before .before .before .before .before .before .before .before .before .before .before .before .before .before .before .before .before .args) .head .end)) nest) (λ f g w. refl) ((c .before .before .before .before .before .before .before .before .before .before .before .before .before .before .before .before .before .before .before .before .before .before .before .before .loop) .p) ((c .before .before .before .before .before .before .before .before .before .before .before .before .before .before .before .before .before .before .before .before .before .before .before .before .loop) .inv .0) ((c .before .before .before .before .before .before .before .before .before .before .before .before .before .before .before .before .before .before .before .before .inline-table-turn) .result .progress) ((c .before .before .before .before .before .before .before .before .before .before .before .before .before .before .before .before .before .before .before .before .inline-table-turn) .ensures) _ ((c .before .before .before .before .before .before .before .before .before .before .before .x2) .given .1), (c .before .before .before .before .before .before .before .on-inline-table-open) .ensures .on, (c .before .before .before .before .before .before .before .on-inline-table-open) .ensures .good .low)
 
 on-inline-table-open-loop-again-3 : (t : ℕ) → on-inline-table-open-lts.Need-loop-again-3 (
   emit-reads.Asked,
   emit-reads.Learnt,
+  action-table-reads.Asked,
+  action-table-reads.Learnt,
   inline-table-turn-reads.Asked,
   inline-table-turn-reads.Learnt,
   on-array-open-below t,
@@ -841,15 +1144,15 @@ on-inline-table-open-loop-again-3 : (t : ℕ) → on-inline-table-open-lts.Need-
     on-inline-table-open.Post
     on-inline-table-open-Inv-loop
     on-inline-table-open-μ-loop
-on-inline-table-open-loop-again-3 t c = (table-again (onOpen ((c .before .before .before .before .before .before .before .before .before .before .before .before .before .before .before .before .before .before .before .before .before .before .before .before .before .before .before .before .before .before .before .before .args) .levels - 1)) (λ nest. inlineTableTurn (span ((c .before .before .before .before .before .before .before .before .before .before .before .before .before .before .before .before .before .before .before .before .before .before .before .before .before .before .before .before .before .before .before .before .args) .head .start) ((c .before .before .before .before .before .before .before .before .before .before .before .before .before .before .before .before .before .before .before .before .before .before .before .before .before .before .before .before .before .before .before .before .args) .head .end)) nest) (λ f g w. refl) ((c .before .before .before .before .before .before .before .before .before .before .before .before .before .before .before .before .before .before .before .before .before .before .before .loop) .p) ((c .before .before .before .before .before .before .before .before .before .before .before .before .before .before .before .before .before .before .before .before .before .before .before .loop) .inv .0) ((c .before .before .before .before .before .before .before .before .before .before .before .before .before .before .before .before .before .before .before .before .inline-table-turn) .result .progress) ((c .before .before .before .before .before .before .before .before .before .before .before .before .before .before .before .before .before .before .before .before .inline-table-turn) .ensures) _ ((c .before .before .before .before .before .before .before .before .before .before .before .x2) .given .1) ((c .before .before .before .before .before .before .before .on-inline-table-open) .ensures) ((c .before .before .if3) .left), ((c .before .before .before .before .before .before .before .on-inline-table-open .kept .1 .1 .1 .1 .1 .0) ∙ (c .before .before .before .before .before .before .before .before .before .before .before .before .before .before .before .before .before .before .before .before .inline-table-turn .kept .1 .1 .1 .1 .1 .0)) ∙ (c .before .before .before .before .before .before .before .before .before .before .before .before .before .before .before .before .before .before .before .before .before .before .before .loop) .inv .1, ((c .before .before .before .before .before .before .before .on-inline-table-open .kept .1 .1 .1 .1 .1 .1 .0) ∙ (c .before .before .before .before .before .before .before .before .before .before .before .before .before .before .before .before .before .before .before .before .inline-table-turn .kept .1 .1 .1 .1 .1 .1 .0)) ∙ (c .before .before .before .before .before .before .before .before .before .before .before .before .before .before .before .before .before .before .before .before .before .before .before .loop) .inv .2)
+on-inline-table-open-loop-again-3 t c = (table-again (onOpen ((c .before .before .before .before .before .before .before .before .before .before .before .before .before .before .before .before .before .before .before .before .before .before .before .before .before .before .before .before .before .before .before .before .before .before .args) .levels - 1)) (λ nest. inlineTableTurn (span ((c .before .before .before .before .before .before .before .before .before .before .before .before .before .before .before .before .before .before .before .before .before .before .before .before .before .before .before .before .before .before .before .before .before .before .args) .head .start) ((c .before .before .before .before .before .before .before .before .before .before .before .before .before .before .before .before .before .before .before .before .before .before .before .before .before .before .before .before .before .before .before .before .before .before .args) .head .end)) nest) (λ f g w. refl) ((c .before .before .before .before .before .before .before .before .before .before .before .before .before .before .before .before .before .before .before .before .before .before .before .before .loop) .p) ((c .before .before .before .before .before .before .before .before .before .before .before .before .before .before .before .before .before .before .before .before .before .before .before .before .loop) .inv .0) ((c .before .before .before .before .before .before .before .before .before .before .before .before .before .before .before .before .before .before .before .before .inline-table-turn) .result .progress) ((c .before .before .before .before .before .before .before .before .before .before .before .before .before .before .before .before .before .before .before .before .inline-table-turn) .ensures) _ ((c .before .before .before .before .before .before .before .before .before .before .before .x2) .given .1) ((c .before .before .before .before .before .before .before .on-inline-table-open) .ensures) ((c .before .before .if3) .left), ((c .before .before .before .before .before .before .before .on-inline-table-open .kept .1 .1 .1 .1 .1 .0) ∙ (c .before .before .before .before .before .before .before .before .before .before .before .before .before .before .before .before .before .before .before .before .inline-table-turn .kept .1 .1 .1 .1 .1 .1 .0)) ∙ (c .before .before .before .before .before .before .before .before .before .before .before .before .before .before .before .before .before .before .before .before .before .before .before .before .loop) .inv .1, ((c .before .before .before .before .before .before .before .on-inline-table-open .kept .1 .1 .1 .1 .1 .1 .0) ∙ (c .before .before .before .before .before .before .before .before .before .before .before .before .before .before .before .before .before .before .before .before .inline-table-turn .kept .1 .1 .1 .1 .1 .1 .1 .0)) ∙ (c .before .before .before .before .before .before .before .before .before .before .before .before .before .before .before .before .before .before .before .before .before .before .before .before .loop) .inv .2, (c .before .before .before .before .before .before .before .before .before .before .before .before .before .before .before .before .before .before .before .before .before .before .before .before .loop) .inv .3)
 
 pub +on-array-open+on-inline-table-open-spec : {M : Type 1} → statement M
 +on-array-open+on-inline-table-open-spec =
     close μ-on-array-open μ-on-inline-table-open (λ t. on-array-open-lts.spec (
       emit-reads.Asked,
       emit-reads.Learnt,
-      array-turn-reads.Asked,
-      array-turn-reads.Learnt,
+      array-turns-reads.Asked,
+      array-turns-reads.Learnt,
       on-array-open-below t,
       on-array-open.Post,
       on-inline-table-open-below t,
@@ -861,8 +1164,9 @@ pub +on-array-open+on-inline-table-open-spec : {M : Type 1} → statement M
     on-array-open-μ-loop
     (on-array-open-returns t)
     (on-array-open-emit-requires t)
+    (on-array-open-sub-left t)
     (on-array-open-loop-holds t)
-    (on-array-open-array-turn-requires t)
+    (on-array-open-array-turns-requires t)
     (on-array-open-enum-told t)
     (on-array-open-loop-less t)
     (on-array-open-loop-again t)
@@ -870,25 +1174,45 @@ pub +on-array-open+on-inline-table-open-spec : {M : Type 1} → statement M
     (on-array-open-same-length t)
     (on-array-open-same-length-2 t)
     (on-array-open-returns-2 t)
+    (on-array-open-sub-depth t)
+    (on-array-open-add-left t)
+    (on-array-open-mul-t40 t)
+    (on-array-open-array-read-t43 t)
+    (on-array-open-mul-t44 t)
+    (on-array-open-array-read-t47 t)
+    (on-array-open-loop-less-2 t)
+    (on-array-open-loop-again-2 t)
     (on-array-open-enum-known-x t)
-    (on-array-open-sub-on-array-open t)
-    (on-array-open-on-array-open-requires t)
     (on-array-open-same-length-3 t)
     (on-array-open-same-length-4 t)
     (on-array-open-returns-3 t)
-    (on-array-open-loop-less-2 t)
-    (on-array-open-loop-again-2 t)
-    (on-array-open-enum-known-x-2 t)
-    (on-array-open-sub-on-inline-table-open t)
-    (on-array-open-on-inline-table-open-requires t)
+    (on-array-open-mul-starts t)
+    (on-array-open-array-write-starts t)
+    (on-array-open-mul-ends t)
+    (on-array-open-array-write-ends t)
+    (on-array-open-add-depth t)
+    (on-array-open-sub-left-2 t)
+    (on-array-open-emit-requires-2 t)
+    (on-array-open-loop-less-3 t)
+    (on-array-open-loop-again-3 t)
+    (on-array-open-on-array-open-requires t)
     (on-array-open-same-length-5 t)
     (on-array-open-same-length-6 t)
     (on-array-open-returns-4 t)
-    (on-array-open-loop-less-3 t)
-    (on-array-open-loop-again-3 t))
+    (on-array-open-loop-less-4 t)
+    (on-array-open-loop-again-4 t)
+    (on-array-open-enum-known-x-2 t)
+    (on-array-open-on-inline-table-open-requires t)
+    (on-array-open-same-length-7 t)
+    (on-array-open-same-length-8 t)
+    (on-array-open-returns-5 t)
+    (on-array-open-loop-less-5 t)
+    (on-array-open-loop-again-5 t))
     λ t. on-inline-table-open-lts.spec (
       emit-reads.Asked,
       emit-reads.Learnt,
+      action-table-reads.Asked,
+      action-table-reads.Learnt,
       inline-table-turn-reads.Asked,
       inline-table-turn-reads.Learnt,
       on-array-open-below t,
@@ -902,6 +1226,7 @@ pub +on-array-open+on-inline-table-open-spec : {M : Type 1} → statement M
     on-inline-table-open-μ-loop
     (on-inline-table-open-returns t)
     (on-inline-table-open-emit-requires t)
+    (on-inline-table-open-action-table-requires t)
     (on-inline-table-open-loop-holds t)
     (on-inline-table-open-inline-table-turn-requires t)
     (on-inline-table-open-enum-told t)

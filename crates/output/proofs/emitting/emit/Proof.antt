@@ -1,6 +1,5 @@
 -- The words of an event, and one more event.
 -- Made by ./proofs from Proof.tmpl: change that.
-use mathlib.Core.Path.{refl}
 use Rattle.output.specs.Pour.{put, bufs}
 use borrow.Author.Needs.{needs}
 use Rattle.output.proofs.emitting.emit.Statement.{statement}

@@ -1,6 +1,5 @@
 -- The words of an error, and one more error.
 -- Made by ./proofs from Proof.tmpl: change that.
-use mathlib.Core.Path.{refl}
 use Rattle.output.specs.Pour.{put, bufs}
 use borrow.Author.Needs.{needs}
 use Rattle.output.proofs.emitting.report.Statement.{statement}

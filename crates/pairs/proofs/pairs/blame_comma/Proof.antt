@@ -1,6 +1,6 @@
 -- The nearest comma before the tokens that are left.
 -- Made by ./proofs from Proof.tmpl: change that.
-use mathlib.Core.Path.{_≡_, refl, _∙_}
+use mathlib.Core.Path.{refl, _∙_}
 use Rattle.output.specs.LookLaws.{looked-up, report-as}
 use borrow.Author.Needs.{needs}
 use Rattle.pairs.proofs.pairs.blame_comma.Statement.{statement}

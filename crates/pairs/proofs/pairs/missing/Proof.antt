@@ -1,6 +1,5 @@
 -- A report of what the state wants.
 -- Made by ./proofs from Proof.tmpl: change that.
-use mathlib.Core.Path.{_≡_, refl}
 use borrow.Author.Needs.{needs}
 use Rattle.pairs.proofs.pairs.missing.Statement.{statement}
 use Rattle.pairs.proofs.pairs.missing.Tie as tie

@@ -1,6 +1,5 @@
 -- A report against the state, and an error event.
 -- Made by ./proofs from Proof.tmpl: change that.
-use mathlib.Core.Path.{_≡_, refl}
 use borrow.Author.Needs.{needs}
 use Rattle.pairs.proofs.pairs.refuse.Statement.{statement}
 use Rattle.pairs.proofs.pairs.refuse.Tie as tie

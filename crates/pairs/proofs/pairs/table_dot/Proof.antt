@@ -2,7 +2,7 @@
 -- Made by ./proofs from Proof.tmpl: change that.
 use native.Mathlib.Omega.{arith}
 use Rattle.output.specs.WalkLaws.{after-item}
-use Rattle.keys.specs.DotLaws.{dot-goes}
+use Rattle.dots.specs.DotLaws.{dot-goes}
 use borrow.Author.Needs.{needs}
 use Rattle.pairs.proofs.pairs.table_dot.Statement.{statement}
 use Rattle.pairs.proofs.pairs.table_dot.Tie as tie

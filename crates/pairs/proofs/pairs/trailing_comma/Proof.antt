@@ -1,6 +1,5 @@
 -- By whether something was read, and by the state.
 -- Made by ./proofs from Proof.tmpl: change that.
-use mathlib.Core.Path.{_≡_, refl}
 use borrow.Author.Needs.{needs}
 use Rattle.pairs.proofs.pairs.trailing_comma.Statement.{statement}
 use Rattle.pairs.proofs.pairs.trailing_comma.Tie as tie

@@ -1,6 +1,6 @@
 -- The key, and then the close or none.
 -- Made by ./proofs from Proof.tmpl: change that.
-use mathlib.Core.Path.{_≡_, refl, sym, _∙_}
+use mathlib.Core.Path.{refl, sym, _∙_}
 use Rattle.token.specs.Tokens.{tokensAt}
 use Rattle.token.specs.declared.kind.Kind.{Kind}
 use Rattle.rules.specs.Out.{_then_}

@@ -1,6 +1,6 @@
 -- By whether the key was valid, and whether it is an array table; the last token but whitespace is to blame.
 -- Made by ./proofs from Proof.tmpl: change that.
-use mathlib.Core.Path.{_≡_, refl, ap, sym, _∙_}
+use mathlib.Core.Path.{refl, ap, sym, _∙_}
 use mathlib.Core.Bool.{true, false}
 use Rattle.token.specs.Tokens.{tokensAt}
 use Rattle.token.specs.Spans.{spanAfter}

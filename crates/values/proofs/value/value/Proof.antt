@@ -1,7 +1,6 @@
 -- Each `=` is reported, up to a value or what stands where one should.
 -- Made by ./proofs from Proof.tmpl: change that.
-use mathlib.Core.Path.{_≡_, refl, sym, _∙_}
-use mathlib.Core.Bool.{true, false}
+use mathlib.Core.Path.{_≡_, refl, _∙_}
 use native.Mathlib.Omega.{arith}
 use Prim.Native.Nat.{_-_}
 use lib.ListN.{length}
@@ -13,7 +12,7 @@ use Rattle.rules.specs.Out.{done, _▹_}
 use Rattle.rules.specs.Messages as message
 use Rattle.rules.specs.Expected as expected
 use Rattle.rules.specs.Value.{value}
-use Rattle.keys.specs.KeyWalks.{nothingLeft}
+use Rattle.dots.specs.KeyWalks.{nothingLeft}
 use Rattle.output.specs.WalkLaws.{at-end}
 use Rattle.nest.specs.NestedLaws.{nested-goes, nested-same}
 use Rattle.values.proofs.ValueLaws.{value-at, value-starts, finish-nested}

@@ -1,6 +1,5 @@
 -- The loop runs over the buffer. Assumes nothing.
 -- Made by ./proofs from Proof.tmpl: change that.
-use native.Mathlib.Omega.{arith}
 use Prim.Native.Nat.{_-_}
 use lib.ListN.{length}
 use borrow.Author.Needs.{needs}

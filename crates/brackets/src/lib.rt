@@ -1,0 +1,2 @@
+// Skipping to a closing bracket, proved equal to its rule.
+pub mod brackets;

@@ -1,0 +1,2 @@
+pub mod DocumentLaws
+pub mod KeyLaws

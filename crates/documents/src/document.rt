@@ -1,0 +1,150 @@
+// The document loop.
+use expressions::expression::key_and_value;
+use expressions::expression::on_expression_dot;
+use expressions::expression::on_expression_key;
+use lines::skipping::on_comment;
+use nest::nest::NestWalk;
+use nest::nest::unstopped;
+use output::emitting::Counts;
+use output::emitting::Walk;
+use output::emitting::emit;
+use output::emitting::empty_key;
+use output::message::KEY_WITH_NO_VALUE;
+use rules::document::InDocument;
+use rules::document::in_document;
+use rules::event::Event;
+use strays::strays::on_missing_expression_key;
+use strays::strays::on_missing_std_table;
+use tables::table::on_table;
+use token::cursor::Cursor;
+use token::cursor::Step;
+ghost use mathlib.Core.Path.{_≡_};
+ghost use mathlib.Core.Bool.{true, false};
+ghost use Rattle.token.specs.Tokens.{Good, tokensAt};
+ghost use Rattle.rules.specs.Document.{document, documentTurn};
+ghost use Rattle.output.specs.Pour.{bufs};
+ghost use Rattle.nest.specs.Nested.{Nested};
+ghost use Rattle.documents.specs.Documents.{Stepped};
+
+// Where a turn of the document loop ended; `over` says that it was the last.
+pub struct DocumentTurn {
+    pub walk: NestWalk,
+    pub over: bool,
+}
+
+// A turn that was not refused, and is not the last.
+fn going_on(w: Walk) -> DocumentTurn
+    ensures { λ r. ⌜ r ≡ record { walk = record { cur = w .cur; n = w .n; stopped = false }; over = false } ⌝ }
+{
+    let walk = unstopped(w);
+    DocumentTurn { walk, over: false }
+}
+
+// The last turn.
+fn ended(w: Walk) -> DocumentTurn
+    ensures { λ r. ⌜ r ≡ record { walk = record { cur = w .cur; n = w .n; stopped = false }; over = true } ⌝ }
+{
+    let walk = unstopped(w);
+    DocumentTurn { walk, over: true }
+}
+
+// One expression, or what stands where one should. The arms for the start of a key emit its first part, and what follows it is walked
+// by the one call of key_and_value, so that it is compiled in here.
+fn document_turn(
+    s: &[u8],
+    c: Cursor,
+    m: Counts,
+    levels: u32,
+    events: &mut [u32],
+    errors: &mut [u32],
+) -> DocumentTurn
+    requires { ⌜ Good (now s) c ⌝ }
+    ensures { λ r. ⌜ Stepped (now (s .entry)) (λ loop. documentTurn levels loop tt (tokensAt (now (s .entry)) c)) c (bufs (now (events .entry)) (now (errors .entry)) m) (now (events .exit)) (now (errors .exit)) r ⌝ }
+{
+    let step = c.next(s);
+    let Step::Got(t, past) = step else {
+        return ended(Walk { cur: c, n: m });
+    };
+    let k = t.kind;
+    let x = in_document(k);
+    let mut from = past;
+    let mut n = m;
+    let mut message = KEY_WITH_NO_VALUE;
+    match x {
+        InDocument::OpenSquare => {
+            let w = on_table(s, t, past, m, events, errors);
+            return going_on(w);
+        }
+        InDocument::CloseSquare => {
+            let w = on_missing_std_table(s, t, past, m, events, errors);
+            return going_on(w);
+        }
+        InDocument::Key(e) => {
+            let start = on_expression_key(t, e, past, m, events);
+            from = start.cur;
+            n = start.n;
+            message = start.message;
+        }
+        InDocument::Equals => {
+            // An empty key, and back to the `=`. Since it follows, the message is not used.
+            n = empty_key(events, m, t.start);
+            from = past.back(s);
+        }
+        InDocument::Dot => {
+            let start = on_expression_dot(s, t, past, m, events);
+            from = start.cur;
+            n = start.n;
+            message = start.message;
+        }
+        InDocument::Stray => {
+            let w = on_missing_expression_key(s, t, past, m, events, errors);
+            return going_on(w);
+        }
+        InDocument::Whitespace => {
+            let i = emit(events, m, Event::Whitespace, t.start, t.end);
+            return going_on(Walk { cur: past, n: i });
+        }
+        InDocument::Newline => {
+            let i = emit(events, m, Event::Newline, t.start, t.end);
+            return going_on(Walk { cur: past, n: i });
+        }
+        InDocument::Comment => {
+            let w = on_comment(s, t, past, m, events, errors);
+            return going_on(w);
+        }
+        InDocument::Eof => {
+            return ended(Walk { cur: past, n: m });
+        }
+    }
+    let walk = key_and_value(s, from, n, message, levels, events, errors);
+    DocumentTurn { walk, over: false }
+}
+
+pub fn document(
+    s: &[u8],
+    c: Cursor,
+    m: Counts,
+    levels: u32,
+    events: &mut [u32],
+    errors: &mut [u32],
+) -> NestWalk
+    requires { ⌜ Good (now s) c ⌝ }
+    ensures { λ r. ⌜ Nested (now (s .entry)) (document levels (tokensAt (now (s .entry)) c)) c (bufs (now (events .entry)) (now (errors .entry)) m) (now (events .exit)) (now (errors .exit)) r ⌝ }
+{
+    let mut cur = c;
+    let mut n = m;
+    loop {
+        let a = document_turn(s, cur, n, levels, events, errors);
+        let v = a.walk;
+        let over = a.over;
+        if over {
+            return v;
+        }
+        let stopped = v.stopped;
+        if stopped {
+            return v;
+        }
+        cur = v.cur;
+        n = v.n;
+    }
+}

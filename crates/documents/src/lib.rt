@@ -1,0 +1,2 @@
+// The document loop, proved equal to its rule.
+pub mod document;

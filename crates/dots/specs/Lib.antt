@@ -1,0 +1,3 @@
+pub mod KeyWalks
+pub mod DotLaws
+pub mod SpaceLaws

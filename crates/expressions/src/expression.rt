@@ -1,0 +1,148 @@
+// Expressions: a key, `=` and a value, and what stands where one should.
+// What is handed to a function that stays out of line lies in memory from then on, so copies are handed on, and the walk's own cursor and
+// counts stay in registers.
+use dots::dots::dot_keys;
+use dots::dots::opt_whitespace;
+use endings::line_end::usual_line_end;
+use nest::nest::NestWalk;
+use nest::nest::unstopped;
+use output::emitting::Counts;
+use output::emitting::emit;
+use output::emitting::empty_key;
+use output::message::KEY_WITH_NO_VALUE;
+use output::message::MISSING_VALUE_FOR_KEY;
+use rules::event::Encoding;
+use rules::event::Event;
+use strays::strays::no_equals;
+use token::cursor::Cursor;
+use token::cursor::Step;
+use token::cursor::Token;
+use token::kind::Kind;
+use values::value::usual_value;
+ghost use mathlib.Core.Path.{_≡_};
+ghost use mathlib.Core.List.{List};
+ghost use Prim.Native.Nat.{ℕ};
+ghost use Rattle.token.specs.Tokens.{Tok, Good, Back, tokensAt};
+ghost use Rattle.rules.specs.Document.{onExpressionKeyValSep, expression};
+ghost use Rattle.rules.specs.Messages as messages;
+ghost use Rattle.rules.specs.Receiver as receiver;
+ghost use Rattle.output.specs.Pour.{bufs, put};
+ghost use Rattle.nest.specs.Nested.{Nested};
+ghost use Rattle.dots.specs.KeyWalks.{ReadDot};
+ghost use Rattle.expressions.specs.Expressed.{Expressed};
+
+// What is known when the first part of a key was emitted: where the walk of the rest starts, the counts, and what is said if no `=`
+// follows. The walk itself is key_and_value, which has one call site.
+pub struct KeyStart {
+    pub cur: Cursor,
+    pub n: Counts,
+    pub message: u32,
+}
+
+// The `=` eq, the value behind it, and the end of the line.
+fn on_expression_key_val_sep(
+    s: &[u8],
+    eq: Token,
+    c: Cursor,
+    m: Counts,
+    levels: u32,
+    events: &mut [u32],
+    errors: &mut [u32],
+) -> NestWalk
+    requires { ⌜ Good (now s) c ⌝ }
+    ensures { λ r. ⌜ Nested (now (s .entry)) (onExpressionKeyValSep levels (eq .start) (eq .end) (tokensAt (now (s .entry)) c)) c (bufs (now (events .entry)) (now (errors .entry)) m) (now (events .exit)) (now (errors .exit)) r ⌝ }
+{
+    let n = emit(events, m, Event::KeyValSep, eq.start, eq.end);
+    let w = opt_whitespace(s, c, n, events, errors);
+    let from = w.cur;
+    let i = w.n;
+    let v = usual_value(s, from, i, levels, events, errors);
+    let stopped = v.stopped;
+    let behind = v.cur;
+    let j = v.n;
+    if stopped {
+        return NestWalk {
+            cur: behind,
+            n: j,
+            stopped: true,
+        };
+    }
+    let z = usual_line_end(s, behind, j, events, errors);
+    unstopped(z)
+}
+
+// From behind the first part of a key on. Whitespace, then dots and the parts behind them, is what opt_dot_keys reads; usually `=` comes
+// behind the whitespace, and then there are no dots.
+pub fn key_and_value(
+    s: &[u8],
+    c: Cursor,
+    m: Counts,
+    message: u32,
+    levels: u32,
+    events: &mut [u32],
+    errors: &mut [u32],
+) -> NestWalk
+    requires { ⌜ Good (now s) c ⌝ }
+    ensures { λ r. ⌜ Expressed (now (s .entry)) (expression message levels (tokensAt (now (s .entry)) c)) c (bufs (now (events .entry)) (now (errors .entry)) m) (now (events .exit)) (now (errors .exit)) r ⌝ }
+{
+    let w = opt_whitespace(s, c, m, events, errors);
+    let mut cur = w.cur;
+    let mut n = w.n;
+    let seen = cur.next_token_if(s, Kind::Equals);
+    match seen {
+        Step::Got(_, _) => {}
+        Step::Done => {
+            let list = s;
+            let from = cur;
+            let sofar = n;
+            let k = dot_keys(list, from, sofar, events, errors);
+            let behind = k.cur;
+            let i = k.n;
+            let v = opt_whitespace(s, behind, i, events, errors);
+            cur = v.cur;
+            n = v.n;
+        }
+    }
+    let step = cur.next_token_if(s, Kind::Equals);
+    let Step::Got(eq, past) = step else {
+        let list = s;
+        let from = cur;
+        let sofar = n;
+        let z = no_equals(list, from, sofar, message, events, errors);
+        return unstopped(z);
+    };
+    on_expression_key_val_sep(s, eq, past, n, levels, events, errors)
+}
+
+// The first part of the key is the token t.
+pub fn on_expression_key(
+    t: Token,
+    encoding: Encoding,
+    c: Cursor,
+    m: Counts,
+    events: &mut [u32],
+) -> KeyStart
+    ensures { λ r. ⌜ (r .cur ≡ c) × (r .message ≡ messages.keyWithNoValue) × ((all : List Tok) (errors : List ℕ) → bufs (now (events .exit)) errors (r .n) ≡ put all (receiver.simpleKey encoding (t .start) (t .end)) (bufs (now (events .entry)) errors m)) ⌝ }
+{
+    let n = emit(events, m, Event::SimpleKey(encoding), t.start, t.end);
+    KeyStart {
+        cur: c,
+        n,
+        message: KEY_WITH_NO_VALUE,
+    }
+}
+
+// The key begins with the dot that was read before c: its first part is empty, and the dot is read again.
+pub fn on_expression_dot(s: &[u8], t: Token, c: Cursor, m: Counts, events: &mut [u32]) -> KeyStart
+    requires { ⌜ Good (now s) c ⌝ }
+    requires { ⌜ ReadDot (now s) t c ⌝ }
+    ensures { λ r. ⌜ Back (now (s .entry)) c (r .cur) × (r .message ≡ messages.missingValueForKey) × ((all : List Tok) (errors : List ℕ) → bufs (now (events .exit)) errors (r .n) ≡ put all (receiver.simpleKey Encoding.None (t .start) (t .start)) (bufs (now (events .entry)) errors m)) ⌝ }
+{
+    let n = empty_key(events, m, t.start);
+    let back = c.back(s);
+    KeyStart {
+        cur: back,
+        n,
+        message: MISSING_VALUE_FOR_KEY,
+    }
+}

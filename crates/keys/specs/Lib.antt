@@ -1,2 +1,0 @@
-pub mod KeyWalks
-pub mod DotLaws
