@@ -10,22 +10,21 @@ use Rattle.token.specs.declared.cursor.Cursor.{Cursor}
 use Rattle.rules.specs.declared.skipping.Bracket.{Bracket}
 use Rattle.rules.specs.declared.array.ArrayState.{ArrayState}
 use Rattle.rules.specs.declared.inline_table.State.{State}
-use Rattle.rules.specs.Out.{span, Out, done, _▹_, _then_}
+use Rattle.rules.specs.Out.{span, Out, _▹_, _then_}
 use Rattle.rules.specs.Receiver as receiver
 use Rattle.rules.specs.Turns.{turns, looping}
 use Rattle.rules.specs.Array.{Nest, arrayTurn}
 use Rattle.rules.specs.InlineTable.{progress, inlineTableTurn}
 use Rattle.rules.specs.Nest.{onOpen}
 use Rattle.output.specs.declared.emitting.Counts.{Counts}
-use Rattle.output.specs.Pour.{Bufs, bufs, refused, put, pour}
-use Rattle.output.specs.Walks.{End, run}
-use Rattle.output.specs.WalkLaws.{then-on}
+use Rattle.output.specs.Pour.{Bufs, bufs, refused, put}
+use Rattle.output.specs.Walks.{run}
 use Rattle.output.specs.TurnLaws.{Turns, onward, turn-same, fewer-left}
 use Rattle.arrays.specs.declared.turn.Next.{Next}
 use Rattle.nest.specs.declared.nest.NestWalk.{NestWalk}
 use Rattle.arrays.specs.Turning.{goOn, Further, Turned}
-use Rattle.nest.specs.Nested.{outOf, Nested}
-use Rattle.nest.specs.NestedLaws.{out-on, nested-stop}
+use Rattle.nest.specs.Nested.{Nested}
+use Rattle.nest.specs.NestedLaws.{nested-stop, nested-done, then-nested, nested-from}
 
 further : (x : Next) (c d : Cursor) → Further x c d → c .at ≤ d .at
 further Next.Again c d h = omega arith
@@ -61,37 +60,16 @@ module _ {S : Type 0} (nest : Nest) (turn : Nest → (S → List Tok → Out) �
 
   -- the end
   pub turn-over : x ≡ Next.Over → Nested s start cur₀ o₀ a b (record { cur = d; n = n; stopped = false })
-  unfolding run
-  turn-over e =
-      let q : run All (done (tokensAt s d)) (bufs a b n) ≡ run All start o₀ = turned Next.Over e in
-      record {
-        wrote = λ base p. subst (λ (y : ℕ). bufs a b n ≡ pour (allTokens s y) (start .items) o₀) p (ap (λ (z : End). z .out) q);
-        rest = λ f. ap (λ (z : End). z .rest) q;
-        good = t .good;
-        on = omega (arith, further x cur d (t .on), inv .on);
-        base = t .base ∙ inv .base;
-      }
+  turn-over e = nested-from (turned Next.Over e) (omega (arith, moved Next.Over e, inv .on)) (t .base ∙ inv .base) (nested-done d a b n (t .good))
 
   -- a bracket was opened, and its walk was refused or not
   module _ {a' b' : List ℕ} {v : NestWalk} (g : Out) (q : run All (g then Rest) (bufs a b n) ≡ run All start o₀) (h : cur .at + 1 ≤ d .at) (y : Nested s g d (bufs a b n) a' b' v) where
     opened-again : v .stopped ≡ false → Turns s (λ k. turns (turn nest) k w' (tokensAt s (v .cur))) start (bufs a' b' (v .n)) o₀ (v .cur) cur₀
-    unfolding run
     opened-again e =
-        let z : bufs a' b' (v .n) ≡ pour All (g .items) (bufs a b n) = out-on s a' b' (v .n) (v .cur) _ (v .stopped) e (y .wrote (cur₀ .base) (t .base ∙ inv .base)) in
-        let p : run All (g then Rest) (bufs a b n) ≡ run All (Rest (tokensAt s (v .cur))) (bufs a' b' (v .n)) = then-on All g Rest (bufs a b n) s a' b' (record { cur = v .cur; n = v .n }) (λ i. record { out = z i; rest = y .rest e i }) in
-        record { fuel = inv .fuel - 1; enough = fewer-left (turn nest) still w inv (v .cur) (omega (arith, h, y .on)) (y .good); same = sym p ∙ q; good = y .good; on = omega (arith, h, y .on, inv .on); base = y .base ∙ (t .base ∙ inv .base) }
+        record { fuel = inv .fuel - 1; enough = fewer-left (turn nest) still w inv (v .cur) (omega (arith, h, y .on)) (y .good); same = sym (then-nested Rest _ (t .base ∙ inv .base) y e) ∙ q; good = y .good; on = omega (arith, h, y .on, inv .on); base = y .base ∙ (t .base ∙ inv .base) }
 
     opened-stop : v .stopped ≡ true → Nested s start cur₀ o₀ a' b' v
-    unfolding run
-    opened-stop e =
-        let z = nested-stop Rest y e in
-        record {
-          wrote = λ base p. subst (λ (u : ℕ). outOf (v .stopped) s a' b' (v .n) (v .cur) ≡ pour (allTokens s u) (start .items) o₀) p (z .wrote (cur₀ .base) (t .base ∙ inv .base) ∙ ap (λ (x : End). x .out) q);
-          rest = λ f. absurd (false≢true (sym f ∙ e));
-          good = y .good;
-          on = omega (arith, h, y .on, inv .on);
-          base = y .base ∙ (t .base ∙ inv .base);
-        }
+    opened-stop e = nested-from q (omega (arith, h, inv .on)) (t .base ∙ inv .base) (nested-stop Rest y e)
 
   pub array-moved : (u : Token) → x ≡ Next.OpenArray u → cur .at + 1 ≤ d .at
   array-moved u e = moved (Next.OpenArray u) e

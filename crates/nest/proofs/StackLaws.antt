@@ -1,7 +1,7 @@
 -- Arrays that wait for one in them to end, kept on a stack: the walk of the innermost, then of those that wait, the nearest first,
 -- gives what the rules give for the outermost. Assumes nothing.
 use mathlib.Core.Path.{_≡_, refl, ap, sym, subst, _∙_}
-use mathlib.Core.Bool.{true, false, false≢true}
+use mathlib.Core.Bool.{true, false}
 use mathlib.Core.List.{List, [], _∷_}
 use Prim.Native.Nat.{ℕ, zero, suc, _+_, _-_, _<_, _≤_}
 use native.Mathlib.Omega.{arith}
@@ -17,15 +17,15 @@ use Rattle.rules.specs.Receiver as receiver
 use Rattle.rules.specs.Turns.{turns, looping}
 use Rattle.rules.specs.Array.{arrayTurn}
 use Rattle.rules.specs.Nest.{onOpen}
-use Rattle.output.specs.Pour.{Bufs, bufs, put, pour}
+use Rattle.output.specs.Pour.{Bufs, bufs, put}
 use Rattle.output.specs.Walks.{End, run}
-use Rattle.output.specs.WalkLaws.{first-item, first-items, then-on}
+use Rattle.output.specs.WalkLaws.{first-item, first-items}
 use Rattle.arrays.specs.declared.turn.Next.{Next}
 use Rattle.arrays.specs.declared.array.ArrayTurn.{ArrayTurn}
 use Rattle.arrays.specs.Turning.{goOn, Further, Wants}
 use Rattle.nest.specs.declared.nest.NestWalk.{NestWalk}
-use Rattle.nest.specs.Nested.{outOf, Nested}
-use Rattle.nest.specs.NestedLaws.{out-on, nested-stop}
+use Rattle.nest.specs.Nested.{Nested}
+use Rattle.nest.specs.NestedLaws.{nested-stop, nested-done, then-nested, nested-from}
 use Rattle.nest.specs.Ran.{Enough, Left, Ran}
 use Rattle.nest.proofs.NestLaws.{open-array, no-level}
 
@@ -167,16 +167,9 @@ module _ {s : List ℕ} {levels : ℕ} {start : Out} {o₀ : Bufs} {cur₀ : Cur
 
   -- the end of the outermost array
   pub stack-over : r .next ≡ Next.Over → depth ≡ 0 → Nested s start cur₀ o₀ ev er (record { cur = r .cur; n = r .n; stopped = false })
-  unfolding run
   stack-over e h =
       let q : run All (done (tokensAt s (r .cur))) (bufs ev er (r .n)) ≡ run All start o₀ = subst (λ (fs : List Frame). run All (resume fs (done (tokensAt s (r .cur)))) (bufs ev er (r .n)) ≡ run All start o₀) (no-frames (inv .frames) starts ends depth left _ (inv .held) h) (here Next.Over e) in
-      record {
-        wrote = λ base p. subst (λ (u : ℕ). bufs ev er (r .n) ≡ pour (allTokens s u) (start .items) o₀) p (ap (λ (z : End). z .out) q);
-        rest = λ f. ap (λ (z : End). z .rest) q;
-        good = y .good;
-        on = omega (arith, stack-over-moved e, inv .on);
-        base = y .base ∙ inv .base;
-      }
+      nested-from q (omega (arith, stack-over-moved e, inv .on)) (y .base ∙ inv .base) (nested-done (r .cur) ev er (r .n) (y .good))
 
   -- the end of the innermost array: on with the nearest that waits
   pub stack-pop : r .next ≡ Next.Over → (depth ≡ 0 → ⊥) → Stacked s levels start o₀ cur₀ starts ends (depth - 1) (left + 1) (getD starts (depth - 1) 0) (getD ends (depth - 1) 0) ArrayState.NeedsComma (bufs ev er (r .n)) (r .cur)
@@ -242,16 +235,13 @@ module _ {s : List ℕ} {levels : ℕ} {start : Out} {o₀ : Bufs} {cur₀ : Cur
   -- a bracket was opened by a call, which was refused or not
   module _ {ev' er' : List ℕ} {v : NestWalk} (g : Out) (q : run All (resume (inv .frames) (g then Loop (onward .fuel) (r .state))) (bufs ev er (r .n)) ≡ run All start o₀) (h : cur .at + 1 ≤ r .cur .at) (m : length (tokensAt s (r .cur)) ≤ onward .fuel) (z : Nested s g (r .cur) (bufs ev er (r .n)) ev' er' v) where
     called-again : v .stopped ≡ false → Stacked s levels start o₀ cur₀ starts ends depth left a b (r .state) (bufs ev' er' (v .n)) (v .cur)
-    unfolding run
     called-again e =
-        let u : bufs ev' er' (v .n) ≡ pour All (g .items) (bufs ev er (r .n)) = out-on s ev' er' (v .n) (v .cur) _ (v .stopped) e (z .wrote (cur₀ .base) (y .base ∙ inv .base)) in
-        let p : run All (g then Loop (onward .fuel) (r .state)) (bufs ev er (r .n)) ≡ run All (Loop (onward .fuel) (r .state) (tokensAt s (v .cur))) (bufs ev' er' (v .n)) = then-on All g (Loop (onward .fuel) (r .state)) (bufs ev er (r .n)) s ev' er' (record { cur = v .cur; n = v .n }) (λ i. record { out = u i; rest = z .rest e i }) in
         record {
           frames = inv .frames;
           held = held-less (inv .frames) starts ends depth left _ _ (fewer (v .cur) (omega (arith, h, z .on))) (inv .held);
           fuel = onward .fuel;
           enough = omega (arith, m, z .on, left-length s (r .cur), left-length s (v .cur));
-          same = resume-same (inv .frames) All _ _ _ _ (sym p) ∙ q;
+          same = resume-same (inv .frames) All _ _ _ _ (sym (then-nested (Loop (onward .fuel) (r .state)) _ (y .base ∙ inv .base) z e)) ∙ q;
           good = z .good;
           on = omega (arith, h, z .on, inv .on);
           base = z .base ∙ (y .base ∙ inv .base);
@@ -259,16 +249,7 @@ module _ {s : List ℕ} {levels : ℕ} {start : Out} {o₀ : Bufs} {cur₀ : Cur
         }
 
     called-stop : v .stopped ≡ true → Nested s start cur₀ o₀ ev' er' v
-    unfolding run
-    called-stop e =
-        let x = resume-stop (inv .frames) (nested-stop (Loop (onward .fuel) (r .state)) z e) e in
-        record {
-          wrote = λ base p. subst (λ (u : ℕ). outOf (v .stopped) s ev' er' (v .n) (v .cur) ≡ pour (allTokens s u) (start .items) o₀) p (x .wrote (cur₀ .base) (y .base ∙ inv .base) ∙ ap (λ (k : End). k .out) q);
-          rest = λ f. absurd (false≢true (sym f ∙ e));
-          good = z .good;
-          on = omega (arith, h, z .on, inv .on);
-          base = z .base ∙ (y .base ∙ inv .base);
-        }
+    called-stop e = nested-from q (omega (arith, h, inv .on)) (y .base ∙ inv .base) (resume-stop (inv .frames) (nested-stop (Loop (onward .fuel) (r .state)) z e) e)
 
   module _ (t : Token) {ev' er' : List ℕ} {v : NestWalk} where
     pub stack-array-again : r .next ≡ Next.OpenArray t → Nested s (onOpen left Bracket.Square (t .start) (t .end) (tokensAt s (r .cur))) (r .cur) (bufs ev er (r .n)) ev' er' v → v .stopped ≡ false → Stacked s levels start o₀ cur₀ starts ends depth left a b (r .state) (bufs ev' er' (v .n)) (v .cur)

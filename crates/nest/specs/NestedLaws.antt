@@ -2,18 +2,18 @@
 use mathlib.Core.Path.{_≡_, refl, ap, sym, subst, _∙_}
 use mathlib.Core.Bool.{Bool, true, false, false≢true}
 use mathlib.Core.List.{List, [], _∷_}
-use Prim.Native.Nat.{ℕ, suc}
+use Prim.Native.Nat.{ℕ, suc, _≤_}
 use native.Mathlib.Omega.{arith}
 use lib.ListN.{length}
-use Rattle.token.specs.Tokens.{Tok, allTokens, tokensAt, Took}
+use Rattle.token.specs.Tokens.{Tok, allTokens, tokensAt, Good, Took}
 use Rattle.token.specs.declared.cursor.Token.{Token}
 use Rattle.token.specs.declared.cursor.Cursor.{Cursor}
-use Rattle.rules.specs.Out.{Item, Out, _▹_, _then_}
+use Rattle.rules.specs.Out.{Item, Out, done, _▹_, _then_}
 use Rattle.output.specs.declared.emitting.Counts.{Counts}
 use Rattle.output.specs.declared.emitting.Walk.{Walk}
 use Rattle.output.specs.Pour.{Bufs, bufs, refused, put, pour}
 use Rattle.output.specs.Walks.{End, run, Goes}
-use Rattle.output.specs.WalkLaws.{pour-append, goes-rest}
+use Rattle.output.specs.WalkLaws.{pour-append, then-on, goes-rest}
 use Rattle.nest.specs.declared.nest.NestWalk.{NestWalk}
 use Rattle.nest.specs.Nested.{outOf, Nested}
 
@@ -82,3 +82,26 @@ nested-stop {s} {g} {o = o} {a} {b} {v} f x e =
 -- on from where a walk ended that cannot be refused
 pub nested-after : {s : List ℕ} {g : Out} {c : Cursor} {o : Bufs} {a b a' b' : List ℕ} {w : Walk} {v : NestWalk} (f : List Tok → Out) → Goes s g c o a b w → Nested s (f (tokensAt s (w .cur))) (w .cur) (bufs a b (w .n)) a' b' v → Nested s (g then f) c o a' b' v
 nested-after f x y = nested-on f (nested-goes x) refl y
+
+-- nothing more is walked
+pub nested-done : {s : List ℕ} (c : Cursor) (a b : List ℕ) (n : Counts) → Good s c → Nested s (done (tokensAt s c)) c (bufs a b n) a b (record { cur = c; n = n; stopped = false })
+nested-done c a b n g = record { wrote = λ base q. refl; rest = λ e. refl; good = g; on = omega arith; base = refl }
+
+-- a rule that goes on after a walk that was not refused goes on from where the walk ended
+pub then-nested : {s : List ℕ} {g : Out} {c : Cursor} {o : Bufs} {a b : List ℕ} {v : NestWalk} (f : List Tok → Out) (base : ℕ) → c .base ≡ base → Nested s g c o a b v → v .stopped ≡ false → run (allTokens s base) (g then f) o ≡ run (allTokens s base) (f (tokensAt s (v .cur))) (bufs a b (v .n))
+unfolding run
+then-nested {s} {g} {o = o} {a} {b} {v} f base q x e =
+    let z : bufs a b (v .n) ≡ pour (allTokens s base) (g .items) o = out-on s a b (v .n) (v .cur) _ (v .stopped) e (x .wrote base q) in
+    then-on (allTokens s base) g f o s a b (record { cur = v .cur; n = v .n }) (λ i. record { out = z i; rest = x .rest e i })
+
+-- a walk by a rule that gives on o what another gives on o₀, from an earlier cursor
+pub nested-from : {s : List ℕ} {r start : Out} {c c₀ : Cursor} {o o₀ : Bufs} {a b : List ℕ} {v : NestWalk} → run (allTokens s (c₀ .base)) r o ≡ run (allTokens s (c₀ .base)) start o₀ → c₀ .at ≤ c .at → c .base ≡ c₀ .base → Nested s r c o a b v → Nested s start c₀ o₀ a b v
+unfolding run
+nested-from {s} {start = start} {o₀ = o₀} {a} {b} {v} q h e x =
+    record {
+      wrote = λ base p. subst (λ (u : ℕ). outOf (v .stopped) s a b (v .n) (v .cur) ≡ pour (allTokens s u) (start .items) o₀) p (x .wrote _ e ∙ ap (λ (k : End). k .out) q);
+      rest = λ f. x .rest f ∙ ap (λ (k : End). k .rest) q;
+      good = x .good;
+      on = omega (arith, h, x .on);
+      base = x .base ∙ e;
+    }

@@ -22,8 +22,8 @@ ghost use Rattle.rules.specs.Nest.{onArrayOpen, onInlineTableOpen};
 ghost use Rattle.output.specs.Pour.{bufs};
 ghost use Rattle.nest.specs.Nested.{Nested};
 
-// How many arrays that wait for one in them to end are kept in one walk; one more is walked by a call. So a level that is only `[`
-// costs no call, and the stack does not grow with it.
+// How many arrays that wait for one in them to end are kept in one walk. The next one is walked by a call, so that sixteen in seventeen
+// levels of `[` cost none.
 const HELD: usize = 16;
 
 // Where a walk ended, and the counts there; `stopped` says that one more level was refused, just behind its bracket.
