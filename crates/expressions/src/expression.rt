@@ -1,4 +1,4 @@
-// Expressions: a key, `=` and a value, and what stands where one should.
+// Expressions: a key, `=` and a value.
 // What is handed to a function that stays out of line lies in memory from then on, so copies are handed on, and the walk's own cursor and
 // counts stay in registers.
 use dots::dots::dot_keys;

@@ -1,4 +1,4 @@
-// Skipping: to the end of a line, and to a closing bracket.
+// Skipping to the end of a line.
 use output::emitting::Counts;
 use output::emitting::Walk;
 use output::emitting::emit;
