@@ -1,17 +1,16 @@
 -- Demand 3 in definitions: what is supposed of a token list, and what is said of the events of a quiet run. The first are properties of the
--- list, the second of words in a buffer; only `documentRun` and `eventsLeft` have to do with a run. Assumes nothing.
-use Prim.Native.Nat.{ℕ, zero, suc, _≤_, _/_}
+-- list, the second of words in a buffer; only `documentRun`, the room in `Ready` and `eventsLeft` have to do with a run. Assumes nothing.
+use Prim.Native.Nat.{ℕ, zero, suc}
 use mathlib.Core.Path.{_≡_}
 use mathlib.Core.Bool.{cond}
 use mathlib.Core.List.{List, [], _∷_}
-use lib.ListN.{length, take, drop}
+use lib.ListN.{take, drop}
 use lib.Dec.{eqb}
 use Rattle.token.specs.declared.kind.Kind.{Kind}
 use Rattle.token.specs.declared.kind.Kind.the-variants.{Dot, Equals, Comma, LeftSquareBracket, RightSquareBracket, LeftCurlyBracket, RightCurlyBracket, Whitespace, Comment, Newline, LiteralString, BasicString, MlLiteralString, MlBasicString, Atom, Eof}
 use Rattle.token.specs.declared.check.Checked.{Checked}
 use Rattle.token.specs.Tokens.{Tok, tok, allTokens}
 use Rattle.token.specs.Check.{checked}
-use Rattle.rules.specs.Limits.{maxDepth}
 use Rattle.rules.specs.Entries.{documentEntry}
 use Rattle.rules.specs.Answer.{eventSize, Outcome, outcome}
 use Rattle.rules.specs.Grammar.{DotOrAtom, UnquotedRest, scalarEnds, dotOrAtom, whitespaceAtom}
@@ -64,22 +63,10 @@ abbrev pub NestedWithin : ℕ → List Tok → Type 0
 NestedWithin n [] = Unit {0}
 NestedWithin n (tok k a b ∷ ts) = remaining (bracketing k) n (λ m. NestedWithin m ts)
 
--- the event buffer has room for as many events as there are tokens
-abbrev pub Roomy : List Tok → List ℕ → Type 0
-Roomy ts events = length ts ≤ length events / eventSize
-
 -- what is supposed of the tokens
 pub record Regular (ts : List Tok) : Type 0 where
   pub ends : OneEofLast ts
   pub apart : NoAdjacentWhitespace ts
-
--- and, for a list that fits to be quiet, of the record bytes s, the base and the event buffer: that no refusal comes, which says nothing of
--- the grammar. The check lets the list pass (refusals 1 to 5), and there is depth (6) and room (7); of errors there are none (8).
-pub record Ready (s : List ℕ) (base : ℕ) (events : List ℕ) : Type 0 where
-  pub passed : checked s base ≡ Checked.Passed
-  pub regular : Regular (allTokens s base)
-  pub shallow : NestedWithin maxDepth (allTokens s base)
-  pub roomy : Roomy (allTokens s base) events
 
 -- where the text ends, of which the tokens begin at p
 abbrev pub textEnd : ℕ → List Tok → ℕ
@@ -94,6 +81,14 @@ eventsIn (suc n) buffer = take eventSize buffer ∷ eventsIn n (drop eventSize b
 -- a run of the document entry on the record bytes s, with the two buffers
 abbrev pub documentRun : List ℕ → ℕ → List ℕ → List ℕ → Outcome
 documentRun s base events errors = outcome documentEntry s base events errors
+
+-- what is supposed, for a list that fits to be quiet, of the record bytes s, the base and the two buffers. The check lets the list pass, so
+-- refusals 1 to 5 do not come; nor does 7, so the events fit. Errors there are none (8), and the depth (6) is said with `FitsWithin` or
+-- `NestedWithin`.
+pub record Ready (s : List ℕ) (base : ℕ) (events errors : List ℕ) : Type 0 where
+  pub passed : checked s base ≡ Checked.Passed
+  pub regular : Regular (allTokens s base)
+  pub room : documentRun s base events errors .answer .refusal ≡ 7 → ⊥
 
 -- the events that a run left in its buffer
 abbrev pub eventsLeft : Outcome → List (List ℕ)
