@@ -120,8 +120,10 @@ module _ (s : List ℕ) (base : ℕ) (events errors : List ℕ) where
 -- two quiet runs from the same base that leave the same events: the tokens are the same but for cuts
 pub outcome-same : (s t : List ℕ) (base : ℕ) (events errors events' errors' : List ℕ) → Regular (allTokens s base) → Regular (allTokens t base)
     → QuietRun (documentRun s base events errors) → QuietRun (documentRun t base events' errors')
-    → eventsLeft (documentRun s base events errors) ≡ eventsLeft (documentRun t base events' errors') → SameButForCuts (allTokens s base) (allTokens t base)
+    → eventsLeft (documentRun s base events errors) ≡ eventsLeft (documentRun t base events' errors')
+    → SameButForCuts (eventsLeft (documentRun s base events errors)) (allTokens s base) (allTokens t base)
 outcome-same s t base events errors events' errors' g h q r e =
-    quiet-same base (allTokens s base) (allTokens t base) (run-laid s base events errors q) (run-laid t base events' errors' r) g h
-    (run-quiet s base events errors q) (run-quiet t base events' errors' r)
-    (sym (run-events s base events errors q) ∙ e ∙ run-events t base events' errors' r)
+    let left = run-events s base events errors q in
+    subst (λ es. SameButForCuts es (allTokens s base) (allTokens t base)) (sym left)
+    (quiet-same base (allTokens s base) (allTokens t base) (run-laid s base events errors q) (run-laid t base events' errors' r) g h
+    (run-quiet s base events errors q) (run-quiet t base events' errors' r) (sym left ∙ e ∙ run-events t base events' errors' r))

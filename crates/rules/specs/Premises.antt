@@ -138,8 +138,13 @@ scalarEnd b scalarEnds = b
 scalarEnd b (dotOrAtom {b = d} k rest) = scalarEnd d rest
 scalarEnd b (whitespaceAtom {d = d} rest) = scalarEnd d rest
 
--- the two lists are the same token for token, but that an unquoted scalar may be cut otherwise: it starts and ends at the same places
-pub data SameButForCuts : List Tok → List Tok → Type 0 where
-  bothEnd : SameButForCuts [] []
-  sameToken : {t : Tok} {ts us : List Tok} → SameButForCuts ts us → SameButForCuts (t ∷ ts) (t ∷ us)
-  sameScalar : {k l : Kind} {a b c : ℕ} {ts vs us ws : List Tok} → DotOrAtom k → DotOrAtom l → (r : UnquotedRest ts vs) (q : UnquotedRest us ws) → scalarEnd b r ≡ scalarEnd c q → SameButForCuts vs ws → SameButForCuts (tok k a b ∷ ts) (tok l a c ∷ us)
+-- below each event the two lists have the same tokens, one or two, but that an unquoted scalar (kind 8, encoding 0) may be cut otherwise
+-- between its start and its end; what follows the last event is the same
+pub data SameButForCuts : List (List ℕ) → List Tok → List Tok → Type 0 where
+  sameRest : {ts : List Tok} → SameButForCuts [] ts ts
+  sameToken : {kind encoding start end : ℕ} {events : List (List ℕ)} {k : Kind} {ts us : List Tok} → SameButForCuts events ts us
+      → SameButForCuts ((kind ∷ encoding ∷ start ∷ end ∷ []) ∷ events) (tok k start end ∷ ts) (tok k start end ∷ us)
+  sameTwoTokens : {kind encoding start middle end : ℕ} {events : List (List ℕ)} {k l : Kind} {ts us : List Tok} → SameButForCuts events ts us
+      → SameButForCuts ((kind ∷ encoding ∷ start ∷ end ∷ []) ∷ events) (tok k start middle ∷ tok l middle end ∷ ts) (tok k start middle ∷ tok l middle end ∷ us)
+  cutOtherwise : {start end b c : ℕ} {events : List (List ℕ)} {k l : Kind} {ts vs us ws : List Tok} → DotOrAtom k → DotOrAtom l → (r : UnquotedRest ts vs) (q : UnquotedRest us ws) → scalarEnd b r ≡ end → scalarEnd c q ≡ end → SameButForCuts events vs ws
+      → SameButForCuts ((8 ∷ 0 ∷ start ∷ end ∷ []) ∷ events) (tok k start b ∷ ts) (tok l start c ∷ us)

@@ -58,7 +58,8 @@ pub fn quiet_brackets_nest(s: &[u8], base: u32, events: &[u32], errors: &[u32])
         → Nests [] (eventsLeft (documentRun (now (s .entry)) base (now (events .entry)) (now (errors .entry)))) []) ⌝ }
 {}
 
-// Two quiet runs from the same base that leave the same events, word for word, had the same tokens, but for how an unquoted scalar was cut.
+// Two quiet runs from the same base that leave the same events, word for word, had the same tokens
+// below each event, but for how an unquoted scalar was cut.
 pub fn quiet_events_determine_tokens(
     s: &[u8],
     t: &[u8],
@@ -73,5 +74,5 @@ pub fn quiet_events_determine_tokens(
         → QuietRun (documentRun (now (s .entry)) base (now (events .entry)) (now (errors .entry)))
         → QuietRun (documentRun (now (t .entry)) base (now («other_events» .entry)) (now («other_errors» .entry)))
         → eventsLeft (documentRun (now (s .entry)) base (now (events .entry)) (now (errors .entry))) ≡ eventsLeft (documentRun (now (t .entry)) base (now («other_events» .entry)) (now («other_errors» .entry)))
-        → SameButForCuts (allTokens (now (s .entry)) base) (allTokens (now (t .entry)) base)) ⌝ }
+        → SameButForCuts (eventsLeft (documentRun (now (s .entry)) base (now (events .entry)) (now (errors .entry)))) (allTokens (now (s .entry)) base) (allTokens (now (t .entry)) base)) ⌝ }
 {}
