@@ -55,10 +55,10 @@ remaining opening (suc n) rest = rest n
 remaining closing n rest = rest (suc n)
 remaining neither n rest = rest n
 
--- at no point of the list are there more than n opening brackets beyond the closing ones. It is a condition on the list alone. The brackets
--- of headers count too. That is harmless: in a list that fits they are at most two, stand where nothing else is open, and are closed on
--- their line, so with n at least 2 the condition says of such a list only that at most n arrays and inline tables are open at a time
--- (`nesting-exact` in proofs/Demand.antt).
+-- at no point of the list are there more than n opening brackets beyond the closing ones. It is a condition on the list alone, and counts the
+-- brackets of headers, and those that nothing closes: 65 lines of a single `[` do not meet it with n = 64, though no array is ever open. Of
+-- a list that fits it says, with n at least 2, only that at most n arrays and inline tables are open at a time (`nesting-exact` in
+-- proofs/Demand.antt): there the brackets of a header are at most two, stand where nothing else is open, and are closed on their line.
 abbrev pub NestedWithin : ℕ → List Tok → Type 0
 NestedWithin n [] = Unit {0}
 NestedWithin n (tok k a b ∷ ts) = remaining (bracketing k) n (λ m. NestedWithin m ts)
