@@ -1,0 +1,4 @@
+pub mod Decided
+pub mod RunLaws
+pub mod NumberLaws
+pub mod RegularLaws
