@@ -2,3 +2,4 @@ pub mod Decided
 pub mod RunLaws
 pub mod NumberLaws
 pub mod RegularLaws
+pub mod VerdictLaws

@@ -2,3 +2,5 @@
 // programs cite for a yes.
 pub mod regular;
 pub mod run;
+pub mod theorems;
+pub mod verdict;
