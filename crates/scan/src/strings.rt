@@ -72,7 +72,7 @@ pub fn lex_ml_literal_string(text: &[u8], at: usize) -> usize
         if starts_three(text, i, b'\'') {
             return up_to_two(text, i + 3, b'\'');
         }
-        i = past_none_of(text, i + 1, b'\'', b'\'', b'\'');
+        i += 1;
     }
     i
 }
