@@ -8,8 +8,8 @@ use Rattle.scan.specs.Lexer.{lexLiteralString}
 use Rattle.places.specs.PlaceLaws.{Still, passed-still, next, over, out}
 use Rattle.scan.specs.ScanLaws.{literal-passes, literal-close, literal-line, literal-on}
 use borrow.Author.Needs.{needs}
-use Rattle.scan.proofs.strings.lex_literal_string.Statement.{statement}
-use Rattle.scan.proofs.strings.lex_literal_string.Tie as tie
+use Rattle.scan.proofs.literal.lex_literal_string.Statement.{statement}
+use Rattle.scan.proofs.literal.lex_literal_string.Tie as tie
 
 abbrev Inv-loop : tie.InvT-loop
 Inv-loop text at i₀ i = Still lexLiteralString text at i

@@ -7,8 +7,8 @@ use Rattle.places.specs.Places.{isByte}
 use Rattle.places.specs.PlaceLaws.{peeks-within}
 use Rattle.scan.specs.ScanLaws.{three-first, three-second, three-third}
 use borrow.Author.Needs.{needs}
-use Rattle.scan.proofs.strings.starts_three.Statement.{statement}
-use Rattle.scan.proofs.strings.starts_three.Tie as tie
+use Rattle.scan.proofs.quotes.starts_three.Statement.{statement}
+use Rattle.scan.proofs.quotes.starts_three.Tie as tie
 
 is-at-requires : tie.Need-is-at-requires
 is-at-requires c κs = search needs

@@ -5,8 +5,8 @@ use borrow.Author.Tests.{ne-eqb}
 use Rattle.scan.specs.Lexer.{escapable}
 use Rattle.places.specs.PlaceLaws.{peeks-here, peeks-out}
 use borrow.Author.Needs.{needs}
-use Rattle.scan.proofs.strings.escapable_at.Statement.{statement}
-use Rattle.scan.proofs.strings.escapable_at.Tie as tie
+use Rattle.scan.proofs.basic.escapable_at.Statement.{statement}
+use Rattle.scan.proofs.basic.escapable_at.Tie as tie
 
 shared-slice-read-b : tie.Need-shared-slice-read-b
 shared-slice-read-b c = search needs

@@ -8,8 +8,8 @@ use Rattle.scan.specs.Lexer.{lexMlLiteralString}
 use Rattle.places.specs.PlaceLaws.{Still, passed-still, next, over, out}
 use Rattle.scan.specs.ScanLaws.{ml-literal-passes, three-within, ml-literal-close, ml-literal-on}
 use borrow.Author.Needs.{needs}
-use Rattle.scan.proofs.strings.lex_ml_literal_string.Statement.{statement}
-use Rattle.scan.proofs.strings.lex_ml_literal_string.Tie as tie
+use Rattle.scan.proofs.literal.lex_ml_literal_string.Statement.{statement}
+use Rattle.scan.proofs.literal.lex_ml_literal_string.Tie as tie
 
 abbrev Inv-loop : tie.InvT-loop
 Inv-loop text at i₀ i = Still lexMlLiteralString text at i

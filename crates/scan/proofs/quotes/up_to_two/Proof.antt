@@ -7,8 +7,8 @@ use Rattle.places.specs.Places.{isByte}
 use Rattle.places.specs.PlaceLaws.{peeks-within}
 use Rattle.scan.specs.ScanLaws.{up-none, up-one, up-two}
 use borrow.Author.Needs.{needs}
-use Rattle.scan.proofs.strings.up_to_two.Statement.{statement}
-use Rattle.scan.proofs.strings.up_to_two.Tie as tie
+use Rattle.scan.proofs.quotes.up_to_two.Statement.{statement}
+use Rattle.scan.proofs.quotes.up_to_two.Tie as tie
 
 is-at-requires : tie.Need-is-at-requires
 is-at-requires c κs = search needs

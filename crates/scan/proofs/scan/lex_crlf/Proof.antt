@@ -5,8 +5,8 @@ use native.Mathlib.Omega.{arith}
 use Rattle.places.specs.Places.{isByte}
 use Rattle.places.specs.PlaceLaws.{peeks-within}
 use borrow.Author.Needs.{needs}
-use Rattle.scan.proofs.strings.lex_crlf.Statement.{statement}
-use Rattle.scan.proofs.strings.lex_crlf.Tie as tie
+use Rattle.scan.proofs.scan.lex_crlf.Statement.{statement}
+use Rattle.scan.proofs.scan.lex_crlf.Tie as tie
 
 is-at-requires : tie.Need-is-at-requires
 is-at-requires c κs = search needs

@@ -9,8 +9,8 @@ use Rattle.scan.specs.Lexer.{lexBasicString}
 use Rattle.places.specs.PlaceLaws.{Still, passed-still, over, out}
 use Rattle.scan.specs.ScanLaws.{basic-passes, basic-close, basic-line, basic-on}
 use borrow.Author.Needs.{needs}
-use Rattle.scan.proofs.strings.lex_basic_string.Statement.{statement}
-use Rattle.scan.proofs.strings.lex_basic_string.Tie as tie
+use Rattle.scan.proofs.basic.lex_basic_string.Statement.{statement}
+use Rattle.scan.proofs.basic.lex_basic_string.Tie as tie
 
 abbrev Inv-loop : tie.InvT-loop
 Inv-loop text at i₀ i = Still (λ bs. lexBasicString false bs) text at i

@@ -6,8 +6,8 @@ use borrow.Author.Tests.{ne-eqb, eq-eqb}
 use Rattle.scan.specs.Lexer.{escapable}
 use Rattle.places.specs.PlaceLaws.{peeks-within}
 use borrow.Author.Needs.{needs}
-use Rattle.scan.proofs.strings.behind.Statement.{statement}
-use Rattle.scan.proofs.strings.behind.Tie as tie
+use Rattle.scan.proofs.basic.behind.Statement.{statement}
+use Rattle.scan.proofs.basic.behind.Tie as tie
 
 escapable-at-requires : tie.Need-escapable-at-requires
 escapable-at-requires c κs = search needs
