@@ -93,13 +93,30 @@ impl Judged {
 
 /// As [`judge_compared`], for any number of rooms.
 pub fn judged_compared(entry: Entry, base: u32, bytes: &[u8]) -> Result<Judged, String> {
-    let tokens = match records::tokens(base, bytes) {
-        Ok(tokens) => tokens,
-        Err(refusal) => return Ok(Judged::Early(refusal)),
-    };
-    let (counted, stop) = walk::counted(entry, &tokens, LEVELS);
-    let unchanged = walk::unchanged(entry, &tokens);
-    compare(&tokens, &counted, stop, &unchanged)?;
+    match records::tokens(base, bytes) {
+        Ok(tokens) => judged_walk(entry, &tokens),
+        Err(refusal) => Ok(Judged::Early(refusal)),
+    }
+}
+
+/// As [`judged_compared`], for records of these very tokens: the records must give them.
+pub fn judged_tokens(
+    entry: Entry,
+    base: u32,
+    bytes: &[u8],
+    tokens: &[Token],
+) -> Result<Judged, String> {
+    match records::tokens(base, bytes) {
+        Ok(found) if found != tokens => Err("records that give other tokens".to_string()),
+        Ok(_) => judged_walk(entry, tokens),
+        Err(refusal) => Ok(Judged::Early(refusal)),
+    }
+}
+
+fn judged_walk(entry: Entry, tokens: &[Token]) -> Result<Judged, String> {
+    let (counted, stop) = walk::counted(entry, tokens, LEVELS);
+    let unchanged = walk::unchanged(entry, tokens);
+    compare(tokens, &counted, stop, &unchanged)?;
     let lists = if stop.is_some() { counted } else { unchanged };
     Ok(Judged::Walked(lists, stop))
 }
