@@ -82,6 +82,14 @@ impl Judged {
         }
     }
 
+    /// The answer with so many words of room.
+    pub fn answer_in(&self, event_words: usize, error_words: usize) -> Answer {
+        match self {
+            Judged::Early(refusal) => early(*refusal),
+            Judged::Walked(lists, stop) => answer(lists, *stop, event_words, error_words),
+        }
+    }
+
     /// The answer with buffers of this size, to which what fits is written.
     pub fn answer(&self, events: &mut [u32], errors: &mut [u32]) -> Answer {
         match self {
@@ -167,7 +175,7 @@ fn early(refusal: records::Refusal) -> Answer {
     }
 }
 
-/// Writes what fits and gives the answer, refusals 6 to 8 among it.
+/// Writes what fits and gives the answer.
 fn write(lists: &Lists, stop: Option<usize>, events: &mut [u32], errors: &mut [u32]) -> Answer {
     for (place, event) in events.chunks_exact_mut(4).zip(&lists.events) {
         place.copy_from_slice(event);
@@ -175,10 +183,15 @@ fn write(lists: &Lists, stop: Option<usize>, events: &mut [u32], errors: &mut [u
     for (place, error) in errors.chunks_exact_mut(6).zip(&lists.errors) {
         place.copy_from_slice(error);
     }
+    answer(lists, stop, events.len(), errors.len())
+}
+
+/// The answer with so many words of room, refusals 6 to 8 among it.
+fn answer(lists: &Lists, stop: Option<usize>, event_words: usize, error_words: usize) -> Answer {
     let (refusal, place) = match stop {
         Some(record) => (6, record),
-        None if lists.events.len() > events.len() / 4 => (7, 0),
-        None if lists.errors.len() > errors.len() / 6 => (8, 0),
+        None if lists.events.len() > event_words / 4 => (7, 0),
+        None if lists.errors.len() > error_words / 6 => (8, 0),
         None => (0, 0),
     };
     Answer {

@@ -27,6 +27,7 @@ pub mod numbers;
 pub mod parser;
 pub mod prng;
 pub mod records;
+pub mod snippets;
 pub mod stream;
 pub mod texts;
 pub mod tomlish;

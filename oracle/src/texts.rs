@@ -205,10 +205,7 @@ impl Text {
         let lexed = self.lexed(rooms.record_bytes);
         match self {
             Text::Tokens { judged, .. } if lexed.refusal == 0 => {
-                let answer = judged.answer(
-                    &mut vec![0; rooms.event_words],
-                    &mut vec![0; rooms.error_words],
-                );
+                let answer = judged.answer_in(rooms.event_words, rooms.error_words);
                 TextAnswer {
                     lexed: Lexed {
                         refusal: answer.refusal,
