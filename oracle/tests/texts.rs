@@ -119,6 +119,7 @@ fn what_is_inside_strings_and_comments() {
 fn carriage_returns_alone() {
     assert_tokens(&[("\r", &[(10, 1)]), ("\r\r\n", &[(10, 1), (10, 3)])]);
     assert_quiet(&["\r", "a=1\rb=2", "\r\r\n"]);
+    assert_eq!(reports("#a\rb"), Some(vec![5]));
 }
 
 #[test]
@@ -137,7 +138,7 @@ fn atoms() {
         ("\"a\"b", &[(12, 3), (15, 4)]),
         ("'a''b'", &[(11, 3), (11, 6)]),
     ]);
-    assert_quiet(&["a=1\"2\"", "x=[1']", "[1']"]);
+    assert_quiet(&["a=1\"2\"", "a=1'2 3'", "a=1\"#\"", "x=[1']", "[1']"]);
     assert_eq!(reports("a=\"a\"b"), Some(vec![23]));
     assert_eq!(reports("a='a''b'"), Some(vec![23]));
 }
@@ -157,6 +158,7 @@ fn byte_order_marks() {
         "\u{feff}\u{feff}=1",
     ]);
     assert_eq!(reports("\n\u{feff}"), Some(vec![5]));
+    assert_eq!(reports("\u{feff}\u{feff}"), Some(vec![5]));
     assert_eq!(texts::tokens("\u{feff}".as_bytes()).unwrap().0, 3);
 }
 
