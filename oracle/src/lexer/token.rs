@@ -1,4 +1,5 @@
-//! Stand-in for toml_parser's `lexer::{Token, TokenKind}`. No lexer is here.
+//! Stand-in for toml_parser's `lexer::{Token, TokenKind}`, which mod.rs takes from
+//! the file of this name.
 //!
 //! Taken for granted: a token is a kind and a span, copied freely; the sixteen
 //! kinds; only the four string kinds have an encoding. Of the descriptions only

@@ -1,38 +1,14 @@
-//! Stand-in for the part of winnow's `stream` that document.rs uses.
+//! Stand-in for winnow's `stream::TokenSlice`, which document.rs reads from.
 //!
-//! Taken for granted: `TokenSlice` is the whole list with the part not yet read,
+//! Taken for granted: it is the whole list with the part not yet read,
 //! and dereferences to that part; `next_token` reads one; `next_slice` reads that
 //! many and panics if there are fewer; `finish` reads all; `eof_offset` is the
 //! number not yet read; `previous_tokens` gives those already read, the last one
 //! first; `reset_to_start` makes all unread; a checkpoint is a place in the list
 //! and `offset_from` the number of tokens between two.
 
-/// The distance between two places of one list.
-pub trait Offset {
-    /// How many tokens lie from `start` to here.
-    fn offset_from(&self, start: &Self) -> usize;
-}
-
-/// Reading from the front.
-pub trait Stream {
-    /// What is read one at a time.
-    type Token;
-    /// What is read many at a time.
-    type Slice;
-    /// A remembered place.
-    type Checkpoint: Offset;
-
-    /// Reads one token, if any is left.
-    fn next_token(&mut self) -> Option<Self::Token>;
-    /// Reads exactly `offset` tokens.
-    fn next_slice(&mut self, offset: usize) -> Self::Slice;
-    /// How many tokens are left.
-    fn eof_offset(&self) -> usize;
-    /// Reads all that is left.
-    fn finish(&mut self) -> Self::Slice;
-    /// Remembers the present place.
-    fn checkpoint(&self) -> Self::Checkpoint;
-}
+use super::Offset;
+use super::Stream;
 
 /// A list of tokens of which the first `read` have been read.
 #[derive(Copy, Clone, Debug)]
@@ -85,6 +61,14 @@ impl<'t, T> Stream for TokenSlice<'t, T> {
         let token = self.initial.get(self.read)?;
         self.read += 1;
         Some(token)
+    }
+
+    fn peek_token(&self) -> Option<&'t T> {
+        self.initial.get(self.read)
+    }
+
+    fn offset_for(&self, found: impl Fn(&'t T) -> bool) -> Option<usize> {
+        self.initial[self.read..].iter().position(found)
     }
 
     fn next_slice(&mut self, offset: usize) -> &'t [T] {

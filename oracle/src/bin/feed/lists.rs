@@ -1,20 +1,5 @@
-//! The feeder of ./differ: makes token lists, asks the oracle (document.rs compiled
-//! unchanged over stand-ins for the files that are not here), and writes frames with
-//! what the library must answer. src/frame.rs says what a frame is.
-//!
-//!     feed --all LENGTH          every list of up to LENGTH tokens, at each entry
-//!     feed --random COUNT SEED   COUNT random lists, and lists at the limits, at each entry
-//!     feed --cases < cases       the cases of batch mode, a line each
-//!
-//! With `--wrong` at the end it asks for something else at each report 13 than the
-//! oracle gives, to show that the comparison can fail.
+//! Token lists for the feeder: every short one, random ones, and lists at the limits.
 
-use std::io::BufRead as _;
-use std::io::Stdout;
-use std::process::ExitCode;
-
-use oracle::batch;
-use oracle::batch::number;
 use oracle::batch::Case;
 use oracle::feeding;
 use oracle::feeding::right_length;
@@ -24,14 +9,12 @@ use oracle::generate::Style;
 use oracle::prng::Prng;
 use oracle::records;
 use oracle::tomlish;
-use oracle::walk;
 use oracle::walk::ENTRIES;
 use oracle::Entry;
 
-type Feed = feeding::Feed<Stdout>;
+use crate::Feed;
+use crate::NOTED;
 
-/// Lists from one note to the next; each is compared four or eight times.
-const NOTED: u64 = 250_000;
 /// How the random lists are made, in turn, and their greatest length.
 const STYLES: [(Style, usize); 16] = [
     (Style::Random, 6),
@@ -51,6 +34,8 @@ const STYLES: [(Style, usize); 16] = [
     (Style::Random, 20),
     (Style::Random, 180),
 ];
+/// Of one random list in so many it is asked whether it fits, too. It is odd, so that all styles come.
+const FITS_EACH: u64 = 9;
 /// The highest place.
 const TOP: u32 = records::MAX_PLACE as u32;
 /// Base, kind and length of lone tokens that end there or above.
@@ -63,39 +48,9 @@ const HIGH: [(u32, u16, u32); 6] = [
     (TOP - 2, 15, 3),
 ];
 
-fn main() -> ExitCode {
-    let mut words: Vec<String> = std::env::args().skip(1).collect();
-    let wrong = words.last().is_some_and(|word| word == "--wrong");
-    words.truncate(words.len() - usize::from(wrong));
-    let words: Vec<&str> = words.iter().map(String::as_str).collect();
-    let mut feed = Feed::new(std::io::stdout(), wrong);
-    match walk::on_large_stack(|| run(&mut feed, &words)) {
-        Ok(()) => ExitCode::SUCCESS,
-        Err(text) => {
-            eprintln!("feed: {text}");
-            ExitCode::from(2)
-        }
-    }
-}
-
-fn run(feed: &mut Feed, words: &[&str]) -> Result<(), String> {
-    match words {
-        ["--all", longest] => all_lists(feed, number(longest)?)?,
-        ["--random", count, seed] => random_lists(feed, number(count)?, number(seed)?)?,
-        ["--cases"] => {
-            for line in std::io::stdin().lock().lines() {
-                let case = batch::parse(&line.map_err(|e| e.to_string())?)?;
-                feed.put(case)?;
-            }
-        }
-        _ => return Err("usage: feed --all LENGTH | --random COUNT SEED | --cases".to_string()),
-    }
-    feed.end()
-}
-
 /// Every list of up to so many tokens, the short ones first, at each entry: once with
 /// words to spare, and once with too little or exact room.
-fn all_lists(feed: &mut Feed, longest: u32) -> Result<(), String> {
+pub fn all(feed: &mut Feed, longest: u32) -> Result<(), String> {
     for length in 0..=longest {
         let lists = 16u64.pow(length);
         for list in 0..lists {
@@ -118,8 +73,26 @@ fn all_lists(feed: &mut Feed, longest: u32) -> Result<(), String> {
     Ok(())
 }
 
+/// Of every list of up to so many tokens, whether it fits: with room for as many events
+/// as it has records, and at times for fewer.
+pub fn all_fits(feed: &mut Feed, longest: u32) -> Result<(), String> {
+    for length in 0..=longest {
+        for list in 0..16u64.pow(length) {
+            let bytes = records::from_pairs(&feeding::short_list(length, list));
+            let case = Case::at(Entry::Document, 3 * (list % 2) as u32, bytes);
+            feed.put_fits(case, |records| {
+                [room((list / 2 % 16) as usize, 4 * records, 3)]
+            })?;
+        }
+        feed.note(&format!(
+            "whether it fits, of every list of {length} tokens"
+        ));
+    }
+    Ok(())
+}
+
 /// Random lists of all styles in turn, each at all four entries, then lists at the limits.
-fn random_lists(feed: &mut Feed, count: u64, seed: u64) -> Result<(), String> {
+pub fn random(feed: &mut Feed, count: u64, seed: u64) -> Result<(), String> {
     let mut prng = Prng::new(seed);
     for turn in 0..count {
         let (style, most) = STYLES[(turn % 16) as usize];
@@ -129,6 +102,10 @@ fn random_lists(feed: &mut Feed, count: u64, seed: u64) -> Result<(), String> {
         if bytes.len() > 140 * 6 && prng.one_in(2) {
             // a run of openings stands behind a key and `=`, where a value entry has no value
             bytes.drain(..12);
+        }
+        if turn % FITS_EACH == 0 {
+            let case = Case::at(Entry::Document, base, bytes.clone());
+            feed.put_fits(case, |records| [room(prng.below(4), 4 * records, 3)])?;
         }
         put_at_all(feed, base, bytes, &mut prng)?;
         if (turn + 1) % NOTED == 0 {
