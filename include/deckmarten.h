@@ -177,8 +177,8 @@ struct deckmarten_answer {
 };
 
 /* What comes of a text: the refusal and its place; where its first token starts, 3 behind a byte order mark and else 0; how many
- * records were written, and how many events and errors there are, stored or not. Spans count from the text's first byte, whatever the
- * base. */
+ * records were written, or at TOKENS would be needed; and how many events and errors there are, stored or not. Spans count from the text's
+ * first byte, whatever the base. */
 struct deckmarten_text_answer {
     uint32_t refusal;
     size_t place;

@@ -1,5 +1,6 @@
 /* The longest and the deepest texts, and those just beyond, in a thread with a stack of 256 KiB, with every buffer between pages that must
- * not be touched: once with its start, once with its end against one. Checks answers and verdicts, and prints how much of the stack was used. */
+ * not be touched: once with its start, and once, the longest only so, with its end against one. Checks answers and verdicts, and prints how much of
+ * the stack was used. */
 #include "deckmarten.h"
 #include "fenced.h"
 
@@ -89,7 +90,7 @@ int main(void) {
     struct fenced stack = fence(STACK);
     size_t idle = stack_used(stack, do_nothing, NULL), most = 0;
     for (int i = 0; i < TEXTS; i++)
-        for (int at_end = 0; at_end < 2; at_end++) {
+        for (int at_end = texts[i].bytes >= LONGEST; at_end < 2; at_end++) {
             struct run run = {.text = &texts[i], .at_end = at_end};
             write_long_text(&texts[i], lend(text_memory, texts[i].bytes, at_end));
             size_t used = stack_used(stack, read_text, &run);

@@ -63,7 +63,7 @@ static void give_back(struct buffers buffers) {
 /* What the buffers and the answer must be: the records if they fit, and then what the document entry makes of them. */
 static struct deckmarten_text_answer wanted(const struct lexed_text *lexed, struct buffers *buffers) {
     if (lexed->count > buffers->record_bytes / DECKMARTEN_SIZE_RECORD)
-        return (struct deckmarten_text_answer){.refusal = DECKMARTEN_REFUSAL_TOKENS};
+        return (struct deckmarten_text_answer){.refusal = DECKMARTEN_REFUSAL_TOKENS, .records = lexed->count};
     size_t bytes = DECKMARTEN_SIZE_RECORD * lexed->count;
     memcpy(buffers->records, lexed->records, bytes);
     struct deckmarten_answer answer = deckmarten_parse_document(lexed->records, bytes, lexed->base, buffers->events, buffers->event_words,

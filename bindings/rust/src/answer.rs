@@ -81,25 +81,22 @@ pub struct TextAnswer<'b> {
 impl<'b> TextAnswer<'b> {
     pub(crate) fn new(raw: RawTextAnswer, records: &'b [u8], events: &'b [u32], errors: &'b [u32]) -> TextAnswer<'b> {
         let run = RawAnswer { refusal: raw.refusal, place: raw.place, events: raw.events, errors: raw.errors };
-        TextAnswer {
-            answer: Answer::new(run, events, errors),
-            base: raw.base,
-            record_count: raw.records,
-            records: stored(records, raw.records, RECORD_SIZE),
-        }
+        let answer = Answer::new(run, events, errors);
+        let written = if answer.refusal() == Some(Refusal::Tokens) { 0 } else { raw.records };
+        TextAnswer { answer, base: raw.base, record_count: raw.records, records: stored(records, written, RECORD_SIZE) }
     }
 
-    /// Where the first token starts: 3 behind a byte order mark, else 0. 0 if the text was not lexed.
+    /// Where the first token starts: 3 behind a byte order mark, else 0. 0 if no record was written.
     pub fn base(&self) -> u32 {
         self.base
     }
 
-    /// How many records the text has. 0 if it was not lexed.
+    /// How many records the text has, also where there is no room for them. 0 if it is too long or not UTF-8.
     pub fn record_count(&self) -> usize {
         self.record_count
     }
 
-    /// The bytes of the records.
+    /// The bytes of the records that were written: of all of them, or none.
     pub fn records(&self) -> &'b [u8] {
         self.records
     }
