@@ -18,7 +18,6 @@ static const struct long_text {
     bool fits;
 } texts[] = {
     {"a byte too long", "#", " ", LONGEST + 1, {9, LONGEST, 0, 0, 0, 0}, false},
-    {"a byte too long, and not UTF-8", "\xff", " ", LONGEST + 1, {9, LONGEST, 0, 0, 0, 0}, false},
     {"not UTF-8 in the last byte", "#", "\xc3\xa9", LONGEST, {10, LONGEST - 1, 0, 0, 0, 0}, false},
     {"the longest comment, behind a mark", "\xef\xbb\xbf#", "\xf0\x9f\xa6\xa1", LONGEST, {0, 0, 3, 2, 1, 0}, true},
     {"the longest string, never closed", "a='''", "\n", LONGEST, {0, 0, 0, 4, 3, 0}, true},
@@ -28,6 +27,7 @@ static const struct long_text {
     {"as many behind a mark", "\xef\xbb\xbf", "\n", MANY + 2, {0, 0, 3, MANY, MANY - 1, 0}, true},
     {"strings side by side", "a=", "'b'", 3 * (MANY / 2), {0, 0, 0, MANY / 2 + 3, MANY / 2 + 2, 1}, false},
     {"the deepest arrays", NESTED("1"), "", 2 + 64 + 1 + 64, {0, 0, 0, 132, 131, 0}, true},
+    {"the deepest inline tables", "a=" SIXTY_FOUR("{a=") "1" SIXTY_FOUR("}"), "", 2 + 192 + 1 + 64, {0, 0, 0, 260, 259, 0}, true},
     {"an array too deep", NESTED("[]"), "", 2 + 64 + 2 + 64, {6, 66, 0, 133, 66, 0}, false},
 };
 #define TEXTS ((int)(sizeof texts / sizeof *texts))

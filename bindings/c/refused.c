@@ -1,5 +1,5 @@
 /* Tests which texts are refused, with their places: bytes that are not UTF-8, of every kind in Unicode's table of well-formed sequences,
- * and the order of the refusals. A refused text leaves every buffer untouched. (longest.c has texts that are too long.) */
+ * texts that are too long, and the order of the refusals. A refused text leaves every buffer untouched. */
 #include <stdio.h>
 #include <stdlib.h>
 #include <string.h>
@@ -53,18 +53,31 @@ static bool untouched(void) {
     return true;
 }
 
-/* A text that is not UTF-8, with room or, which is asked later, without. */
-static void check_refused(int number, size_t room) {
-    const uint8_t *text = (const uint8_t *)cases[number].text;
-    size_t bytes = strlen(cases[number].text), place = cases[number].place;
+/* A text that is refused so, in this room. */
+static void check_in(int number, const uint8_t *text, size_t bytes, uint32_t refusal, size_t place, size_t room) {
     fill();
     struct deckmarten_lexed a = deckmarten_lex(text, bytes, records, room);
-    if (a.refusal != DECKMARTEN_REFUSAL_NOT_UTF8 || a.place != place || a.base || a.records || !untouched()) stop("lex", number);
+    if (a.refusal != refusal || a.place != place || a.base || a.records || !untouched()) stop("lex", number);
     struct deckmarten_text_answer b = deckmarten_parse_text(text, bytes, records, room, events, room, errors, room);
-    if (b.refusal != DECKMARTEN_REFUSAL_NOT_UTF8 || b.place != place || b.base || b.records || b.events || b.errors || !untouched())
-        stop("parse_text", number);
+    if (b.refusal != refusal || b.place != place || b.base || b.records || b.events || b.errors || !untouched()) stop("parse_text", number);
     struct deckmarten_verdict c = deckmarten_text_fits(text, bytes, records, room, events, room);
-    if (c.fits || c.refusal != DECKMARTEN_REFUSAL_NOT_UTF8 || c.place != place || !untouched()) stop("text_fits", number);
+    if (c.fits || c.refusal != refusal || c.place != place || !untouched()) stop("text_fits", number);
+}
+
+/* With room, and without, which is asked later. */
+static void check_refused(int number, const uint8_t *text, size_t bytes, uint32_t refusal, size_t place) {
+    check_in(number, text, bytes, refusal, place, ROOM);
+    check_in(number, text, bytes, refusal, place, 0);
+}
+
+/* Texts of a byte too many, which are Whitespace; the second is not UTF-8 either, which is asked later. */
+static void check_too_long(void) {
+    static uint8_t text[DECKMARTEN_LIMIT_BYTES + 1];
+    memset(text, ' ', sizeof text);
+    check_refused(CASES, text, sizeof text, DECKMARTEN_REFUSAL_TEXT_TOO_LONG, DECKMARTEN_LIMIT_BYTES);
+    text[0] = 0xff;
+    check_refused(CASES + 1, text, sizeof text, DECKMARTEN_REFUSAL_TEXT_TOO_LONG, DECKMARTEN_LIMIT_BYTES);
+    check_refused(CASES + 2, text, sizeof text - 1, DECKMARTEN_REFUSAL_NOT_UTF8, 0);
 }
 
 /* A character by itself is an Atom, and so a key without a value: read, and no document. */
@@ -86,10 +99,11 @@ int main(void) {
             check_well_formed(i);
             continue;
         }
-        check_refused(i, ROOM);
-        check_refused(i, 0);
+        const uint8_t *text = (const uint8_t *)cases[i].text;
+        check_refused(i, text, strlen(cases[i].text), DECKMARTEN_REFUSAL_NOT_UTF8, cases[i].place);
         refused++;
     }
-    printf("%d texts are refused as not UTF-8, each at its place, and %d are not\n", refused, CASES - refused);
+    check_too_long();
+    printf("%d texts are refused as not UTF-8, each at its place, and %d are not; texts that are too long are\n", refused, CASES - refused);
     return 0;
 }
