@@ -14,7 +14,7 @@ use Rattle.rules.specs.Entries.{parseDocument}
 use Rattle.rules.specs.Words.{eventsOf}
 use Rattle.rules.specs.Quiet.{Quiet}
 use Rattle.rules.specs.Grammar.{FitsWithin, Fits}
-use Rattle.rules.specs.Premises.{NestedWithin, Regular, textEnd, EndToEnd, noEvent, anEvent, Nests, SameButForCuts, bothEnd, sameToken}
+use Rattle.rules.specs.Premises.{NestedWithin, Regular, textEnd, EndToEnd, noEvent, anEvent, Nests, SameButForCuts, sameRest}
 use Rattle.rules.proofs.Reading.{Reads}
 use Rattle.rules.proofs.FitsQuietDocument.{Whole, document-walk}
 use Rattle.rules.proofs.QuietFitsDocument.{document-fits}
@@ -68,12 +68,12 @@ ends-once : {p q r : ℕ} {events : List (List ℕ)} → EndToEnd p events q →
 ends-once noEvent noEvent = refl
 ends-once (anEvent h) (anEvent g) = ends-once h g
 
-eof-same : {q r a b c d : ℕ} → q ≡ r → Laid q (tok Eof a b ∷ []) → Laid r (tok Eof c d ∷ []) → SameButForCuts (tok Eof a b ∷ []) (tok Eof c d ∷ [])
-eof-same {q} {r} {a} {b} {c} {d} e (laidToken w l) (laidToken w' m) = subst₂ (λ x y. SameButForCuts (tok Eof q b ∷ []) (tok Eof x y ∷ [])) e (w ∙ e ∙ sym w') (sameToken bothEnd)
+eof-same : {q r a b c d : ℕ} → q ≡ r → Laid q (tok Eof a b ∷ []) → Laid r (tok Eof c d ∷ []) → SameButForCuts [] (tok Eof a b ∷ []) (tok Eof c d ∷ [])
+eof-same {q} {r} {a} {b} {c} {d} e (laidToken w l) (laidToken w' m) = subst₂ (λ x y. SameButForCuts [] (tok Eof q b ∷ []) (tok Eof x y ∷ [])) e (w ∙ e ∙ sym w') sameRest
 
 -- two quiet runs from the same base with the same event words: the lists are the same but for cuts
 pub quiet-same : (base : ℕ) (ts us : List Tok) → Laid base ts → Laid base us → Regular ts → Regular us
-    → Quiet (parseDocument ts .items) → Quiet (parseDocument us .items) → eventsOf ts (parseDocument ts .items) ≡ eventsOf us (parseDocument us .items) → SameButForCuts ts us
+    → Quiet (parseDocument ts .items) → Quiet (parseDocument us .items) → eventsOf ts (parseDocument ts .items) ≡ eventsOf us (parseDocument us .items) → SameButForCuts (eventsOf ts (parseDocument ts .items)) ts us
 quiet-same base ts us l m g h q r e =
     let w = quiet-read base ts l g q in
     let v = quiet-read base us m h r in
@@ -81,4 +81,4 @@ quiet-same base ts us l m g h q r e =
     let y = subst (λ x. Reads x us (tok Eof (v .0) (v .1) ∷ []) [] []) (sym i) (v .2 .0) in
     let c = reads-well ts (w .2 .0) l in
     let d = reads-well ts y m in
-    reads-same (w .2 .0) y l m (eof-same (ends-once (c .endToEnd) (d .endToEnd)) (c .laid) (d .laid))
+    reads-same ts (w .2 .0) y l m (eof-same (ends-once (c .endToEnd) (d .endToEnd)) (c .laid) (d .laid))

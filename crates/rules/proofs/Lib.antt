@@ -1,6 +1,7 @@
 pub mod BufferLaws
 pub mod OutcomeLaws
 pub mod Texts
+pub mod RuledOut
 pub mod TurnsLaws
 pub mod Reading
 pub mod Suffixes

@@ -1,27 +1,33 @@
 -- Demand 3 over what an entry answers and leaves in its event buffer: the theorems of Demand.antt, carried from the rules' items to the
 -- outcome by OutcomeLaws.antt. Nothing here needs to be believed.
 use mathlib.Core.Path.{_≡_, refl, ap, sym, subst, _∙_}
+use mathlib.Core.Bool.{Bool, true, false}
 use mathlib.Core.Logic.{_↔_}
 use mathlib.Core.List.{List, [], _∷_, _++_}
-use Prim.Native.Nat.{ℕ}
+use Prim.Native.Nat.{ℕ, _*_, _/_, _≤_}
 use native.Mathlib.Nat.{le-trans}
+use native.Mathlib.Omega.{arith}
 use lib.ListN.{length, drop}
+use lib.Dec.{ltb}
+use borrow.Author.Tests.{ltb-false, le-ltb}
 use Rattle.token.specs.declared.check.Checked.{Checked}
 use Rattle.token.specs.Spans.{spanAfter}
 use Rattle.token.specs.Tokens.{Tok, allTokens}
 use Rattle.token.specs.Check.{checked}
 use Rattle.token.specs.Laid.{Laid}
 use Rattle.token.specs.CheckLaws.{checked-passes, passed-laid}
+use Rattle.rules.specs.Limits.{maxDepth}
 use Rattle.rules.specs.Out.{Item, event, eventAfter, report, stop}
 use Rattle.rules.specs.Entries.{parseDocument, documentEntry}
-use Rattle.rules.specs.Words.{lookedUp, eventWords, eventsOf}
-use Rattle.rules.specs.Answer.{eventSize, joined}
+use Rattle.rules.specs.Words.{lookedUp, eventWords, eventsOf, errorsOf, Halt, ended, refusedLevel, haltOf}
+use Rattle.rules.specs.Answer.{eventSize, errorSize, joined, Outcome, refusalBy, walked}
+use Rattle.rules.specs.Bounds.{event-bound}
 use Rattle.rules.specs.Quiet.{Quiet, QuietRun}
-use Rattle.rules.specs.Grammar.{Fits}
-use Rattle.rules.specs.Premises.{Regular, Ready, textEnd, eventsIn, documentRun, eventsLeft, EndToEnd, Nests, SameButForCuts}
+use Rattle.rules.specs.Grammar.{FitsWithin, Fits}
+use Rattle.rules.specs.Premises.{NestedWithin, Regular, Ready, textEnd, eventsIn, documentRun, eventsLeft, EndToEnd, Nests, SameButForCuts}
 use Rattle.rules.proofs.BufferLaws.{all-fit}
-use Rattle.rules.proofs.OutcomeLaws.{quiet-passed, quiet-outcome, outcome-quiet, counted-events, events-written}
-use Rattle.rules.proofs.Demand.{quiet-fits, quiet-ends, quiet-nests, quiet-count, quiet-same}
+use Rattle.rules.proofs.OutcomeLaws.{passed-outcome, quiet-ended, quiet-passed, quiet-outcome, outcome-quiet, counted-events, events-written}
+use Rattle.rules.proofs.Demand.{quiet-fits-within, nesting-exact, quiet-ends, quiet-nests, quiet-count, quiet-same}
 
 -- the events stand first in a buffer, and are read back from it
 events-back : (all : List Tok) (is : List Item) (others : List ℕ) → eventsIn (length (eventsOf all is)) (joined (eventsOf all is) ++ others) ≡ eventsOf all is
@@ -31,6 +37,12 @@ events-back all (event g a b ∷ is) others = ap (λ ws. eventWords g (record { 
 events-back all (eventAfter g l ∷ is) others = ap (λ ws. eventWords g (spanAfter (lookedUp all l)) ∷ ws) (events-back all is others)
 events-back all (report m x c u ∷ is) others = events-back all is others
 events-back all (stop n ∷ is) others = refl
+
+-- 7 comes only if the events do not fit
+not-seven : (h : Halt) (shortErrors : Bool) → refusalBy h false shortErrors ≡ 7 → ⊥
+not-seven ended true e = omega (arith, e)
+not-seven ended false e = omega (arith, e)
+not-seven (refusedLevel n) shortErrors e = omega (arith, e)
 
 module _ (s : List ℕ) (base : ℕ) (events errors : List ℕ) where
   abbrev tokens : List Tok
@@ -56,14 +68,46 @@ module _ (s : List ℕ) (base : ℕ) (events errors : List ℕ) where
       ∙ ap (eventsIn (length (eventsOf tokens items))) (all-fit eventSize (eventsOf tokens items) events (o .fits))
       ∙ events-back tokens items (drop (length (joined (eventsOf tokens items))) events)
 
-  -- the run is quiet exactly when the tokens fit the grammar
-  pub outcome-fits : Ready s base events → QuietRun (documentRun s base events errors) ↔ Fits tokens
-  outcome-fits r =
-      let l = laid (r .passed) in
-      let e = quiet-fits base tokens l (r .regular) (r .shallow) in (
-        λ q. e .0 (run-quiet q),
-        λ f. outcome-quiet documentEntry s base events errors (record { passed = r .passed; quiet = e .1 f; fits = le-trans (quiet-count base tokens l (r .regular) (e .1 f)) (r .roomy) }),
+  -- what fits is what a quiet run has read, whatever else is supposed
+  pub outcome-then-fits : Regular tokens → QuietRun (documentRun s base events errors) → FitsWithin maxDepth tokens
+  outcome-then-fits g r = quiet-fits-within base tokens (run-laid r) g .0 (run-quiet r)
+
+  -- the refusal of a run that passed the check
+  refusal-passed : checked s base ≡ Checked.Passed
+      → documentRun s base events errors .answer .refusal ≡ refusalBy (haltOf items) (ltb (length events / eventSize) (length (eventsOf tokens items))) (ltb (length errors / errorSize) (length (errorsOf tokens items)))
+  unfolding walked
+  refusal-passed p = ap (λ (o : Outcome). o .answer .refusal) (passed-outcome documentEntry s base events errors p)
+
+  -- where 7 is not the refusal of quiet items, their events fit
+  events-fit-by : (short : Bool) → ltb (length events / eventSize) (length (eventsOf tokens items)) ≡ short → Ready s base events errors → Quiet items → length (eventsOf tokens items) ≤ length events / eventSize
+  events-fit-by false e r q = ltb-false _ _ e
+  events-fit-by true e r q = absurd (r .room (refusal-passed (r .passed) ∙ simp (quiet-ended items q, e)))
+
+  -- the run is quiet exactly when the tokens fit the grammar with at most 64 arrays and inline tables open
+  pub outcome-fits-within : Ready s base events errors → QuietRun (documentRun s base events errors) ↔ FitsWithin maxDepth tokens
+  outcome-fits-within r =
+      let e = quiet-fits-within base tokens (laid (r .passed)) (r .regular) in (
+        outcome-then-fits (r .regular),
+        λ d. outcome-quiet documentEntry s base events errors (record { passed = r .passed; quiet = e .1 d; fits = events-fit-by _ refl r (e .1 d) }),
       )
+
+  -- the same, with the depth as a premise
+  pub outcome-fits : Ready s base events errors → NestedWithin maxDepth tokens → QuietRun (documentRun s base events errors) ↔ Fits tokens
+  outcome-fits r shallow =
+      let e = outcome-fits-within r in
+      (λ q. (maxDepth, e .0 q), λ f. e .1 (nesting-exact tokens .1 (f, shallow)))
+
+  -- room for as many events as there are tokens is enough for a list that fits
+  pub roomy-fits-quiet : checked s base ≡ Checked.Passed → Regular tokens → length tokens ≤ length events / eventSize → FitsWithin maxDepth tokens → QuietRun (documentRun s base events errors)
+  roomy-fits-quiet p g h d =
+      let q = quiet-fits-within base tokens (laid p) g .1 d in
+      outcome-quiet documentEntry s base events errors (record { passed = p; quiet = q; fits = le-trans (quiet-count base tokens (laid p) g q) h })
+
+  -- room for three times as many is enough for any list
+  pub roomy-ready : checked s base ≡ Checked.Passed → Regular tokens → 3 * length tokens ≤ length events / eventSize → Ready s base events errors
+  roomy-ready p g h =
+      let short = le-ltb (length events / eventSize) (length (eventsOf tokens items)) (le-trans (event-bound documentEntry tokens tokens) h) in
+      record { passed = p; regular = g; room = λ e. not-seven (haltOf items) _ (sym (refusal-passed p ∙ ap (λ x. refusalBy (haltOf items) x (ltb (length errors / errorSize) (length (errorsOf tokens items)))) short) ∙ e) }
 
   -- the events in its buffer lie end to end, from the base to the end of the text
   pub outcome-ends : Regular tokens → QuietRun (documentRun s base events errors) → EndToEnd base (eventsLeft (documentRun s base events errors)) (textEnd base tokens)
@@ -76,8 +120,10 @@ module _ (s : List ℕ) (base : ℕ) (events errors : List ℕ) where
 -- two quiet runs from the same base that leave the same events: the tokens are the same but for cuts
 pub outcome-same : (s t : List ℕ) (base : ℕ) (events errors events' errors' : List ℕ) → Regular (allTokens s base) → Regular (allTokens t base)
     → QuietRun (documentRun s base events errors) → QuietRun (documentRun t base events' errors')
-    → eventsLeft (documentRun s base events errors) ≡ eventsLeft (documentRun t base events' errors') → SameButForCuts (allTokens s base) (allTokens t base)
+    → eventsLeft (documentRun s base events errors) ≡ eventsLeft (documentRun t base events' errors')
+    → SameButForCuts (eventsLeft (documentRun s base events errors)) (allTokens s base) (allTokens t base)
 outcome-same s t base events errors events' errors' g h q r e =
-    quiet-same base (allTokens s base) (allTokens t base) (run-laid s base events errors q) (run-laid t base events' errors' r) g h
-    (run-quiet s base events errors q) (run-quiet t base events' errors' r)
-    (sym (run-events s base events errors q) ∙ e ∙ run-events t base events' errors' r)
+    let left = run-events s base events errors q in
+    subst (λ es. SameButForCuts es (allTokens s base) (allTokens t base)) (sym left)
+    (quiet-same base (allTokens s base) (allTokens t base) (run-laid s base events errors q) (run-laid t base events' errors' r) g h
+    (run-quiet s base events errors q) (run-quiet t base events' errors' r) (sym left ∙ e ∙ run-events t base events' errors' r))

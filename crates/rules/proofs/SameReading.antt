@@ -17,7 +17,7 @@ use Rattle.rules.specs.InlineTable.{encodingAt}
 use Rattle.rules.specs.Words.{eventNumber, encodingOf, eventsOf}
 use Rattle.rules.specs.Quiet.{Quiet}
 use Rattle.rules.specs.Grammar.{literal, basic, multiLineLiteral, multiLineBasic, KeyPart, atomPart, stringPart, Scalar}
-use Rattle.rules.specs.Premises.{OpenBracket, SameButForCuts, sameToken, sameScalar}
+use Rattle.rules.specs.Premises.{OpenBracket, SameButForCuts, sameToken, sameTwoTokens, cutOtherwise}
 use Rattle.rules.proofs.Reading.{ReadsOne, readsDot, readsEquals, readsComma, readsTableOpen, readsTableClose, readsArrayOpen, readsArrayClose, readsInlineTableOpen, readsInlineTableClose, readsWhitespace, readsNewline, readsComment, readsKey, readsString, ReadsTwo, readsArrayTableOpen, readsArrayTableClose, Reads, readNone, readOne, readTwo, readUnquoted}
 use Rattle.rules.proofs.WellRead.{two-wide, unquoted-laid}
 
@@ -151,19 +151,22 @@ one-two {g = g} o p = differ (reading g) (one-reading o) (two-reading p)
 one-scalar : {k : Kind} {σ τ : List OpenBracket} → ReadsOne k (Event.Scalar Encoding.None) σ τ → ⊥
 one-scalar o = differ-scalar (reading (Event.Scalar Encoding.None)) (one-reading o) scalar-reading
 
-two-same : {k l : Kind} {a b c d : ℕ} {ts us : List Tok} → k ≡ l → b ≡ c → SameButForCuts ts us → SameButForCuts (tok k a b ∷ tok k b d ∷ ts) (tok l a c ∷ tok l c d ∷ us)
-two-same {k} {l} {a} {b} {c} {d} {ts} {us} e f h = subst₂ (λ x y. SameButForCuts (tok k a b ∷ tok k b d ∷ ts) (tok x a y ∷ tok x y d ∷ us)) e f (sameToken (sameToken h))
+two-same : {kind encoding : ℕ} {es : List (List ℕ)} {k l : Kind} {a b c d : ℕ} {ts us : List Tok} → k ≡ l → b ≡ c → SameButForCuts es ts us
+    → SameButForCuts ((kind ∷ encoding ∷ a ∷ d ∷ []) ∷ es) (tok k a b ∷ tok k b d ∷ ts) (tok l a c ∷ tok l c d ∷ us)
+two-same {kind} {encoding} {es} {k} {l} {a} {b} {c} {d} {ts} {us} e f h =
+    subst₂ (λ x y. SameButForCuts ((kind ∷ encoding ∷ a ∷ d ∷ []) ∷ es) (tok k a b ∷ tok k b d ∷ ts) (tok x a y ∷ tok x y d ∷ us)) e f (sameTwoTokens h)
 
-pub reads-same : {is : List Item} {ts vs us ws : List Tok} {p : ℕ} {σ τ σ' τ' : List OpenBracket} → Reads is ts vs σ τ → Reads is us ws σ' τ' → Laid p ts → Laid p us → SameButForCuts vs ws → SameButForCuts ts us
-reads-same readNone readNone l m h = h
-reads-same (readOne {ts = ts} o r) (readOne {k = k} {a = a} {b = b} {ts = us} o' r') (laidToken w l) (laidToken w' m) h = subst (λ x. SameButForCuts (tok x a b ∷ ts) (tok k a b ∷ us)) (sym (one-kind o') ∙ one-kind o) (sameToken (reads-same r r' l m h))
-reads-same (readOne o r) (readTwo o' r') l m h = absurd (one-two o o')
-reads-same (readOne o r) (readUnquoted d u e r') l m h = absurd (one-scalar o)
-reads-same (readTwo o r) (readOne o' r') l m h = absurd (one-two o' o)
-reads-same (readTwo o r) (readTwo o' r') (laidToken w (laidToken x l)) (laidToken w' (laidToken x' m)) h = two-same (sym (two-kind o) ∙ two-kind o') (two-wide o w ∙ sym (two-wide o' w')) (reads-same r r' l m h)
-reads-same (readUnquoted d u e r) (readOne o' r') l m h = absurd (one-scalar o')
-reads-same (readUnquoted {b = b} {ts = ts} {us = vs} d u e r) (readUnquoted {b = c} {ts = us} {us = ws} d' u' e' r') (laidToken w l) (laidToken w' m) h =
-    sameScalar d d' u u' (e ∙ sym e') (reads-same r r' (subst (λ x. Laid x vs) e (unquoted-laid b u l .laid)) (subst (λ x. Laid x ws) e' (unquoted-laid c u' m .laid)) h)
+pub reads-same : (all : List Tok) {is : List Item} {ts vs us ws : List Tok} {p : ℕ} {σ τ σ' τ' : List OpenBracket} → Reads is ts vs σ τ → Reads is us ws σ' τ' → Laid p ts → Laid p us → SameButForCuts [] vs ws → SameButForCuts (eventsOf all is) ts us
+reads-same all readNone readNone l m h = h
+reads-same all (readOne {g = g} {is = is} {ts = ts} o r) (readOne {k = k} {a = a} {b = b} {ts = us} o' r') (laidToken w l) (laidToken w' m) h =
+    subst (λ x. SameButForCuts (eventsOf all (event g a b ∷ is)) (tok x a b ∷ ts) (tok k a b ∷ us)) (sym (one-kind o') ∙ one-kind o) (sameToken (reads-same all r r' l m h))
+reads-same all (readOne o r) (readTwo o' r') l m h = absurd (one-two o o')
+reads-same all (readOne o r) (readUnquoted d u e r') l m h = absurd (one-scalar o)
+reads-same all (readTwo o r) (readOne o' r') l m h = absurd (one-two o' o)
+reads-same all (readTwo o r) (readTwo o' r') (laidToken w (laidToken x l)) (laidToken w' (laidToken x' m)) h = two-same (sym (two-kind o) ∙ two-kind o') (two-wide o w ∙ sym (two-wide o' w')) (reads-same all r r' l m h)
+reads-same all (readUnquoted d u e r) (readOne o' r') l m h = absurd (one-scalar o')
+reads-same all (readUnquoted {b = b} {ts = ts} {us = vs} d u e r) (readUnquoted {b = c} {ts = us} {us = ws} d' u' e' r') (laidToken w l) (laidToken w' m) h =
+    cutOtherwise d d' u u' e e' (reads-same all r r' (subst (λ x. Laid x vs) e (unquoted-laid b u l .laid)) (subst (λ x. Laid x ws) e' (unquoted-laid c u' m .laid)) h)
 
 -- from words back to events
 encodingFrom : ℕ → Encoding

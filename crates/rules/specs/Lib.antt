@@ -21,6 +21,7 @@ pub mod TextWords
 pub mod Texts
 pub mod Grammar
 pub mod Premises
+pub mod RuledOut
 pub mod Costs
 pub mod LineCosts
 pub mod KeyCosts

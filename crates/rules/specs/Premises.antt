@@ -1,17 +1,16 @@
 -- Demand 3 in definitions: what is supposed of a token list, and what is said of the events of a quiet run. The first are properties of the
--- list, the second of words in a buffer; only `documentRun` and `eventsLeft` have to do with a run. Assumes nothing.
-use Prim.Native.Nat.{ℕ, zero, suc, _≤_, _/_}
+-- list, the second of words in a buffer; only `documentRun`, the room in `Ready` and `eventsLeft` have to do with a run. Assumes nothing.
+use Prim.Native.Nat.{ℕ, zero, suc}
 use mathlib.Core.Path.{_≡_}
 use mathlib.Core.Bool.{cond}
 use mathlib.Core.List.{List, [], _∷_}
-use lib.ListN.{length, take, drop}
+use lib.ListN.{take, drop}
 use lib.Dec.{eqb}
 use Rattle.token.specs.declared.kind.Kind.{Kind}
 use Rattle.token.specs.declared.kind.Kind.the-variants.{Dot, Equals, Comma, LeftSquareBracket, RightSquareBracket, LeftCurlyBracket, RightCurlyBracket, Whitespace, Comment, Newline, LiteralString, BasicString, MlLiteralString, MlBasicString, Atom, Eof}
 use Rattle.token.specs.declared.check.Checked.{Checked}
 use Rattle.token.specs.Tokens.{Tok, tok, allTokens}
 use Rattle.token.specs.Check.{checked}
-use Rattle.rules.specs.Limits.{maxDepth}
 use Rattle.rules.specs.Entries.{documentEntry}
 use Rattle.rules.specs.Answer.{eventSize, Outcome, outcome}
 use Rattle.rules.specs.Grammar.{DotOrAtom, UnquotedRest, scalarEnds, dotOrAtom, whitespaceAtom}
@@ -56,30 +55,18 @@ remaining opening (suc n) rest = rest n
 remaining closing n rest = rest (suc n)
 remaining neither n rest = rest n
 
--- at no point of the list are there more than n opening brackets beyond the closing ones. It is a condition on the list alone. The brackets
--- of headers count too. That is harmless: in a list that fits they are at most two, stand where nothing else is open, and are closed on
--- their line, so with n at least 2 the condition says of such a list only that at most n arrays and inline tables are open at a time
--- (`nesting-exact` in proofs/Demand.antt).
+-- at no point of the list are there more than n opening brackets beyond the closing ones. It is a condition on the list alone, and counts the
+-- brackets of headers, and those that nothing closes: 65 lines of a single `[` do not meet it with n = 64, though no array is ever open. Of
+-- a list that fits it says, with n at least 2, only that at most n arrays and inline tables are open at a time (`nesting-exact` in
+-- proofs/Demand.antt): there the brackets of a header are at most two, stand where nothing else is open, and are closed on their line.
 abbrev pub NestedWithin : ℕ → List Tok → Type 0
 NestedWithin n [] = Unit {0}
 NestedWithin n (tok k a b ∷ ts) = remaining (bracketing k) n (λ m. NestedWithin m ts)
-
--- the event buffer has room for as many events as there are tokens
-abbrev pub Roomy : List Tok → List ℕ → Type 0
-Roomy ts events = length ts ≤ length events / eventSize
 
 -- what is supposed of the tokens
 pub record Regular (ts : List Tok) : Type 0 where
   pub ends : OneEofLast ts
   pub apart : NoAdjacentWhitespace ts
-
--- and, for a list that fits to be quiet, of the record bytes s, the base and the event buffer: that no refusal comes, which says nothing of
--- the grammar. The check lets the list pass (refusals 1 to 5), and there is depth (6) and room (7); of errors there are none (8).
-pub record Ready (s : List ℕ) (base : ℕ) (events : List ℕ) : Type 0 where
-  pub passed : checked s base ≡ Checked.Passed
-  pub regular : Regular (allTokens s base)
-  pub shallow : NestedWithin maxDepth (allTokens s base)
-  pub roomy : Roomy (allTokens s base) events
 
 -- where the text ends, of which the tokens begin at p
 abbrev pub textEnd : ℕ → List Tok → ℕ
@@ -94,6 +81,14 @@ eventsIn (suc n) buffer = take eventSize buffer ∷ eventsIn n (drop eventSize b
 -- a run of the document entry on the record bytes s, with the two buffers
 abbrev pub documentRun : List ℕ → ℕ → List ℕ → List ℕ → Outcome
 documentRun s base events errors = outcome documentEntry s base events errors
+
+-- what is supposed, for a list that fits to be quiet, of the record bytes s, the base and the two buffers. The check lets the list pass, so
+-- refusals 1 to 5 do not come; nor does 7, so the events fit. Errors there are none (8), and the depth (6) is said with `FitsWithin` or
+-- `NestedWithin`.
+pub record Ready (s : List ℕ) (base : ℕ) (events errors : List ℕ) : Type 0 where
+  pub passed : checked s base ≡ Checked.Passed
+  pub regular : Regular (allTokens s base)
+  pub room : documentRun s base events errors .answer .refusal ≡ 7 → ⊥
 
 -- the events that a run left in its buffer
 abbrev pub eventsLeft : Outcome → List (List ℕ)
@@ -143,8 +138,13 @@ scalarEnd b scalarEnds = b
 scalarEnd b (dotOrAtom {b = d} k rest) = scalarEnd d rest
 scalarEnd b (whitespaceAtom {d = d} rest) = scalarEnd d rest
 
--- the two lists are the same token for token, but that an unquoted scalar may be cut otherwise: it starts and ends at the same places
-pub data SameButForCuts : List Tok → List Tok → Type 0 where
-  bothEnd : SameButForCuts [] []
-  sameToken : {t : Tok} {ts us : List Tok} → SameButForCuts ts us → SameButForCuts (t ∷ ts) (t ∷ us)
-  sameScalar : {k l : Kind} {a b c : ℕ} {ts vs us ws : List Tok} → DotOrAtom k → DotOrAtom l → (r : UnquotedRest ts vs) (q : UnquotedRest us ws) → scalarEnd b r ≡ scalarEnd c q → SameButForCuts vs ws → SameButForCuts (tok k a b ∷ ts) (tok l a c ∷ us)
+-- below each event the two lists have the same tokens, one or two, but that an unquoted scalar (kind 8, encoding 0) may be cut otherwise
+-- between its start and its end; what follows the last event is the same
+pub data SameButForCuts : List (List ℕ) → List Tok → List Tok → Type 0 where
+  sameRest : {ts : List Tok} → SameButForCuts [] ts ts
+  sameToken : {kind encoding start end : ℕ} {events : List (List ℕ)} {k : Kind} {ts us : List Tok} → SameButForCuts events ts us
+      → SameButForCuts ((kind ∷ encoding ∷ start ∷ end ∷ []) ∷ events) (tok k start end ∷ ts) (tok k start end ∷ us)
+  sameTwoTokens : {kind encoding start middle end : ℕ} {events : List (List ℕ)} {k l : Kind} {ts us : List Tok} → SameButForCuts events ts us
+      → SameButForCuts ((kind ∷ encoding ∷ start ∷ end ∷ []) ∷ events) (tok k start middle ∷ tok l middle end ∷ ts) (tok k start middle ∷ tok l middle end ∷ us)
+  cutOtherwise : {start end b c : ℕ} {events : List (List ℕ)} {k l : Kind} {ts vs us ws : List Tok} → DotOrAtom k → DotOrAtom l → (r : UnquotedRest ts vs) (q : UnquotedRest us ws) → scalarEnd b r ≡ end → scalarEnd c q ≡ end → SameButForCuts events vs ws
+      → SameButForCuts ((8 ∷ 0 ∷ start ∷ end ∷ []) ∷ events) (tok k start b ∷ ts) (tok l start c ∷ us)

@@ -4,8 +4,9 @@ ghost use mathlib.Core.Logic.{_↔_};
 ghost use mathlib.Core.List.{[]};
 ghost use Rattle.token.specs.Tokens.{allTokens};
 ghost use Rattle.rules.specs.Quiet.{QuietRun};
-ghost use Rattle.rules.specs.Grammar.{Fits};
-ghost use Rattle.rules.specs.Premises.{Regular, Ready, documentRun, textEnd, eventsLeft, EndToEnd, Nests, SameButForCuts};
+ghost use Rattle.rules.specs.Limits.{maxDepth};
+ghost use Rattle.rules.specs.Grammar.{FitsWithin, Fits};
+ghost use Rattle.rules.specs.Premises.{NestedWithin, Regular, Ready, documentRun, textEnd, eventsLeft, EndToEnd, Nests, SameButForCuts};
 ghost use Rattle.rules.specs.Texts.{texts, furtherTexts, asRuled, asWritten, ruledOutcomes, writtenOutcomes};
 
 // The rules read each of document 01's fourteen texts as it was read by hand.
@@ -23,9 +24,23 @@ pub fn further_texts_as_read()
     ensures { λ _. ⌜ asRuled furtherTexts ≡ asWritten furtherTexts ⌝ }
 {}
 
-// A run of the document entry is quiet exactly when the token list fits the token grammar.
+// What a quiet run of the document entry has read fits the token grammar. No room and no depth is supposed.
+pub fn quiet_then_fits(s: &[u8], base: u32, events: &[u32], errors: &[u32])
+    ensures { λ _. ⌜ (Regular (allTokens (now (s .entry)) base)
+        → QuietRun (documentRun (now (s .entry)) base (now (events .entry)) (now (errors .entry)))
+        → Fits (allTokens (now (s .entry)) base)) ⌝ }
+{}
+
+// A run of the document entry is quiet exactly when the token list fits the token grammar with at most 64 arrays and inline tables open.
+pub fn quiet_exactly_when_fits_within(s: &[u8], base: u32, events: &[u32], errors: &[u32])
+    ensures { λ _. ⌜ (Ready (now (s .entry)) base (now (events .entry)) (now (errors .entry))
+        → (QuietRun (documentRun (now (s .entry)) base (now (events .entry)) (now (errors .entry))) ↔ FitsWithin maxDepth (allTokens (now (s .entry)) base))) ⌝ }
+{}
+
+// The same with the depth as a premise on the list: quiet exactly when the list fits.
 pub fn quiet_exactly_when_fits(s: &[u8], base: u32, events: &[u32], errors: &[u32])
-    ensures { λ _. ⌜ (Ready (now (s .entry)) base (now (events .entry))
+    ensures { λ _. ⌜ (Ready (now (s .entry)) base (now (events .entry)) (now (errors .entry))
+        → NestedWithin maxDepth (allTokens (now (s .entry)) base)
         → (QuietRun (documentRun (now (s .entry)) base (now (events .entry)) (now (errors .entry))) ↔ Fits (allTokens (now (s .entry)) base))) ⌝ }
 {}
 
@@ -43,7 +58,8 @@ pub fn quiet_brackets_nest(s: &[u8], base: u32, events: &[u32], errors: &[u32])
         → Nests [] (eventsLeft (documentRun (now (s .entry)) base (now (events .entry)) (now (errors .entry)))) []) ⌝ }
 {}
 
-// Two quiet runs from the same base that leave the same events, word for word, had the same tokens, but for how an unquoted scalar was cut.
+// Two quiet runs from the same base that leave the same events, word for word, had the same tokens
+// below each event, but for how an unquoted scalar was cut.
 pub fn quiet_events_determine_tokens(
     s: &[u8],
     t: &[u8],
@@ -58,5 +74,5 @@ pub fn quiet_events_determine_tokens(
         → QuietRun (documentRun (now (s .entry)) base (now (events .entry)) (now (errors .entry)))
         → QuietRun (documentRun (now (t .entry)) base (now («other_events» .entry)) (now («other_errors» .entry)))
         → eventsLeft (documentRun (now (s .entry)) base (now (events .entry)) (now (errors .entry))) ≡ eventsLeft (documentRun (now (t .entry)) base (now («other_events» .entry)) (now («other_errors» .entry)))
-        → SameButForCuts (allTokens (now (s .entry)) base) (allTokens (now (t .entry)) base)) ⌝ }
+        → SameButForCuts (eventsLeft (documentRun (now (s .entry)) base (now (events .entry)) (now (errors .entry)))) (allTokens (now (s .entry)) base) (allTokens (now (t .entry)) base)) ⌝ }
 {}

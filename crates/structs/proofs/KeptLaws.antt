@@ -8,6 +8,7 @@ use lib.Seq.{getD-append-add}
 use Rattle.token.specs.Records.{lengthAt, kindNumberAt}
 use Rattle.structs.specs.declared.Token.{Token}
 use Rattle.structs.specs.Structs.{recordOf, recordsOf, KindsAndLengthsKept}
+use Rattle.structs.proofs.StructLaws.{length-records}
 
 -- behind the first record
 skipped : (y : Token) (s : List ℕ) (i j : ℕ) → getD (recordOf y ++ s) (suc i * 6 + j) 0 ≡ getD s (i * 6 + j) 0
@@ -46,10 +47,15 @@ first-kind : (t : Token) (s : List ℕ) → t .kind < 2 ^ 16 → kindNumberAt (r
 unfolding kindNumberAt
 first-kind t s h = omega arith
 
-pub kept : KindsAndLengthsKept
+lengths-kept : (before : List Token) (t : Token) (behind : List Token) → t .length < 2 ^ 32 → lengthAt (recordsOf (before ++ (t ∷ behind))) (length before) ≡ t .length
 unfolding recordsOf
-kept [] t behind l k = (first-length t (recordsOf behind) l, first-kind t (recordsOf behind) k)
-kept (y ∷ ys) t behind l k =
-    let s : List ℕ = recordsOf (ys ++ (t ∷ behind)) in
-    let r = kept ys t behind l k in
-    (length-behind y s (length ys) ∙ r .0, kind-behind y s (length ys) ∙ r .1)
+lengths-kept [] t behind l = first-length t (recordsOf behind) l
+lengths-kept (y ∷ ys) t behind l = length-behind y (recordsOf (ys ++ (t ∷ behind))) (length ys) ∙ lengths-kept ys t behind l
+
+kinds-kept : (before : List Token) (t : Token) (behind : List Token) → t .kind < 2 ^ 16 → kindNumberAt (recordsOf (before ++ (t ∷ behind))) (length before) ≡ t .kind
+unfolding recordsOf
+kinds-kept [] t behind k = first-kind t (recordsOf behind) k
+kinds-kept (y ∷ ys) t behind k = kind-behind y (recordsOf (ys ++ (t ∷ behind))) (length ys) ∙ kinds-kept ys t behind k
+
+pub kept : KindsAndLengthsKept
+kept = record { records = length-records; lengths = lengths-kept; kinds = kinds-kept }

@@ -26,8 +26,9 @@ recordsOf (t ∷ ts) = recordOf t ++ recordsOf ts
 unfoldable pub putAt : List ℕ → ℕ → Token → List ℕ
 putAt s i t = take (6 * i) s ++ recordOf t ++ drop (6 * i + 6) s
 
--- a struct's fields have 32 and 16 bits, and in the records of a list its record has its length and its kind
-abbrev pub KindsAndLengthsKept : Type 0
-KindsAndLengthsKept =
-    (before : List Token) (t : Token) (behind : List Token) → t .length < 2 ^ 32 → t .kind < 2 ^ 16
-    → (lengthAt (recordsOf (before ++ (t ∷ behind))) (length before) ≡ t .length) × (kindNumberAt (recordsOf (before ++ (t ∷ behind))) (length before) ≡ t .kind)
+-- n structs give n records of six bytes, and no byte more; and in the records of a list the record of a struct, whose fields have 32 and 16
+-- bits, has its length and its kind
+pub record KindsAndLengthsKept : Type 0 where
+  pub records : (tokens : List Token) → length (recordsOf tokens) ≡ 6 * length tokens
+  pub lengths : (before : List Token) (t : Token) (behind : List Token) → t .length < 2 ^ 32 → lengthAt (recordsOf (before ++ (t ∷ behind))) (length before) ≡ t .length
+  pub kinds : (before : List Token) (t : Token) (behind : List Token) → t .kind < 2 ^ 16 → kindNumberAt (recordsOf (before ++ (t ∷ behind))) (length before) ≡ t .kind

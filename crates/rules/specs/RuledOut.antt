@@ -1,0 +1,30 @@
+-- What the definitions of demand 3 rule out: an example for each, refuted by a function of src/theorems.rt. Assumes nothing.
+use Prim.Native.Nat.{ℕ}
+use mathlib.Core.List.{List, [], _∷_}
+use Rattle.token.specs.declared.kind.Kind.the-variants.{Equals, Atom, Eof}
+use Rattle.token.specs.Tokens.{Tok, tok}
+
+-- two Whitespace events, with a place between them that no event has
+abbrev pub withGap : List (List ℕ)
+withGap = (14 ∷ 0 ∷ 0 ∷ 1 ∷ []) ∷ (14 ∷ 0 ∷ 2 ∷ 3 ∷ []) ∷ []
+
+-- `[}`: an array is opened and an inline table closed
+abbrev pub crossing : List (List ℕ)
+crossing = (10 ∷ 0 ∷ 0 ∷ 1 ∷ []) ∷ (13 ∷ 0 ∷ 1 ∷ 2 ∷ []) ∷ []
+
+-- `ab=1`, its key one Atom; the same with a key of two; the events of the first
+abbrev pub afterKey : List Tok
+afterKey = tok Equals 2 3 ∷ tok Atom 3 4 ∷ tok Eof 4 4 ∷ []
+
+abbrev pub keyWhole : List Tok
+keyWhole = tok Atom 0 2 ∷ afterKey
+
+abbrev pub keyCut : List Tok
+keyCut = tok Atom 0 1 ∷ tok Atom 1 2 ∷ afterKey
+
+abbrev pub keyEvents : List (List ℕ)
+keyEvents = (5 ∷ 0 ∷ 0 ∷ 2 ∷ []) ∷ (7 ∷ 0 ∷ 2 ∷ 3 ∷ []) ∷ (8 ∷ 0 ∷ 3 ∷ 4 ∷ []) ∷ []
+
+-- `a=`: a pair without a value
+abbrev pub withoutValue : List Tok
+withoutValue = tok Atom 0 1 ∷ tok Equals 1 2 ∷ tok Eof 2 2 ∷ []
