@@ -2,7 +2,12 @@
 ghost use mathlib.Core.Path.{_≡_};
 ghost use mathlib.Core.Logic.{_↔_};
 ghost use mathlib.Core.List.{[]};
+ghost use Prim.Native.Nat.{_/_, _≤_};
+ghost use lib.ListN.{length};
+ghost use Rattle.token.specs.declared.check.Checked.{Checked};
 ghost use Rattle.token.specs.Tokens.{allTokens};
+ghost use Rattle.token.specs.Check.{checked};
+ghost use Rattle.rules.specs.Answer.{eventSize};
 ghost use Rattle.rules.specs.Quiet.{QuietRun};
 ghost use Rattle.rules.specs.Limits.{maxDepth};
 ghost use Rattle.rules.specs.Grammar.{FitsWithin, Fits};
@@ -35,6 +40,15 @@ pub fn quiet_then_fits(s: &[u8], base: u32, events: &[u32], errors: &[u32])
 pub fn quiet_exactly_when_fits_within(s: &[u8], base: u32, events: &[u32], errors: &[u32])
     ensures { λ _. ⌜ (Ready (now (s .entry)) base (now (events .entry)) (now (errors .entry))
         → (QuietRun (documentRun (now (s .entry)) base (now (events .entry)) (now (errors .entry))) ↔ FitsWithin maxDepth (allTokens (now (s .entry)) base))) ⌝ }
+{}
+
+// Room for as many events as there are tokens is enough: a run over a list that fits within the depth is then quiet.
+pub fn fits_then_quiet(s: &[u8], base: u32, events: &[u32], errors: &[u32])
+    ensures { λ _. ⌜ (checked (now (s .entry)) base ≡ Checked.Passed
+        → Regular (allTokens (now (s .entry)) base)
+        → length (allTokens (now (s .entry)) base) ≤ length (now (events .entry)) / eventSize
+        → FitsWithin maxDepth (allTokens (now (s .entry)) base)
+        → QuietRun (documentRun (now (s .entry)) base (now (events .entry)) (now (errors .entry)))) ⌝ }
 {}
 
 // The same with the depth as a premise on the list: quiet exactly when the list fits.

@@ -1,0 +1,109 @@
+-- The answer of `fits`, from the run's answer and what is asked of it and of the list. Proved; nothing here needs to be believed.
+use mathlib.Core.Path.{_≡_, refl, ap, sym, subst, _∙_}
+use mathlib.Core.Bool.{Bool, true, false, cond, false≢true}
+use mathlib.Core.Logic.{_↔_}
+use mathlib.Core.List.{List, []}
+use Prim.Native.Nat.{ℕ, _/_, _<_, _≤_}
+use native.Mathlib.Omega.{arith}
+use lib.ListN.{length}
+use lib.Dec.{ltb}
+use borrow.Author.Tests.{lt-ltb, le-ltb}
+use Rattle.token.specs.declared.check.Checked.{Checked}
+use Rattle.token.specs.Records.{count}
+use Rattle.token.specs.Tokens.{Tok, allTokens}
+use Rattle.token.specs.Check.{checked}
+use Rattle.token.specs.CheckLaws.{refused-number}
+use Rattle.token.specs.CursorLaws.{all-length}
+use Rattle.rules.specs.Limits.{maxDepth}
+use Rattle.rules.specs.declared.answer.Answer.{Answer}
+use Rattle.rules.specs.Entries.{documentEntry}
+use Rattle.rules.specs.Answer.{eventSize, Outcome, outcomeBy, outcome}
+use Rattle.rules.specs.Quiet.{QuietRun}
+use Rattle.rules.specs.Grammar.{FitsWithin}
+use Rattle.rules.specs.Premises.{Regular, Ready, documentRun}
+use Rattle.grammar.specs.Answers.{Answers}
+use Rattle.quiet.specs.declared.verdict.Verdict.{Verdict}
+use Rattle.quiet.specs.Runs.{QuietAnswer}
+use Rattle.quiet.specs.Verdicts.{Sound, Roomy, unjudged, shortOfRoom, refusalOf, placeOf, Judges, Judgement, DeterminedVerdict}
+use Rattle.quiet.proofs.Decided.{decided-no, decided-once}
+
+-- both answers are what the contract says, part by part
+pub determined : (s : List ℕ) (base : ℕ) (events : List ℕ) → DeterminedVerdict s base events
+determined s base events x y p q =
+    let fits = decided-once (x .verdict .fits) (y .verdict .fits) (p .yes) (q .yes) in
+    let refusal = p .refusal ∙ sym (q .refusal) in
+    let place = p .place ∙ sym (q .place) in
+    let left = p .left ∙ sym (q .left) in
+    λ i. record { verdict = record { fits = fits i; refusal = refusal i; place = place i }; events = left i }
+
+-- what the theorems about the rules say of the run
+pub record Cited (s : List ℕ) (base : ℕ) (events : List ℕ) : Type 0 where
+  pub within : Ready s base events [] → QuietRun (documentRun s base events []) ↔ FitsWithin maxDepth (allTokens s base)
+  pub quiet : checked s base ≡ Checked.Passed → Regular (allTokens s base) → length (allTokens s base) ≤ length events / eventSize → FitsWithin maxDepth (allTokens s base) → QuietRun (documentRun s base events [])
+
+-- a quiet run has passed the check
+passed-by : (c : Checked) (s : List ℕ) (base : ℕ) (events : List ℕ) → checked s base ≡ c → QuietRun (outcomeBy c documentEntry s base events []) → checked s base ≡ Checked.Passed
+passed-by Checked.Passed s base events h q = h
+passed-by (Checked.Refused r i) s base events h q = absurd (refused-number s base r i h (q .accepted))
+
+quiet-passed : (s : List ℕ) (base : ℕ) (events : List ℕ) → QuietRun (documentRun s base events []) → checked s base ≡ Checked.Passed
+unfolding outcome
+quiet-passed s base events q = passed-by (checked s base) s base events refl q
+
+-- the run is quiet exactly when the list is sound, if it is regular and there is room
+quiet-sound : (s : List ℕ) (base : ℕ) (events : List ℕ) → Cited s base events → Regular (allTokens s base) → QuietRun (documentRun s base events []) → Sound s base
+quiet-sound s base events t g q =
+    let p = quiet-passed s base events q in
+    record { passed = p; regular = g; fitting = t .within (record { passed = p; regular = g; room = λ e. omega (arith, e, q .accepted) }) .0 q }
+
+sound-quiet : (s : List ℕ) (base : ℕ) (events : List ℕ) → Cited s base events → Sound s base → Roomy s events → QuietRun (documentRun s base events [])
+sound-quiet s base events t o h = t .quiet (o .passed) (o .regular) (omega (arith, h, all-length s base)) (o .fitting)
+
+-- from here on `answer` is the run's, and `after` and `errors` the buffers behind it
+module _ (s : List ℕ) (base : ℕ) (events after errors : List ℕ) (answer : Answer) (is : Answers documentEntry s base events [] after errors answer) (cited : Cited s base events) where
+  abbrev run : Outcome
+  run = documentRun s base events []
+
+  ran : answer ≡ run .answer
+  ran = ap (λ (o : Outcome). o .answer) is
+
+  -- the error words do not matter
+  answer-run : QuietAnswer answer after → QuietRun run
+  answer-run q =
+      let here : QuietRun (record { answer = answer; events = after; errors = errors }) = record { accepted = q .accepted; errorless = q .errorless; nonempty = q .nonempty } in
+      subst QuietRun is here
+
+  run-answer : QuietRun run → QuietAnswer answer after
+  run-answer r =
+      let here : QuietRun (record { answer = answer; events = after; errors = errors }) = subst QuietRun (sym is) r in
+      record { accepted = here .accepted; errorless = here .errorless; nonempty = here .nonempty }
+
+  judged : (f not short : Bool) → (f ≡ true) ↔ (Sound s base × Roomy s events) → unjudged (answer .refusal) ≡ not → ltb (length events / eventSize) (count s) ≡ short
+      → Judges s base events after (record { fits = f; refusal = cond not (answer .refusal) (shortOfRoom short); place = cond not (answer .place) 0 })
+  judged f not short y u h =
+      record {
+        yes = y;
+        refusal = sym (ap (λ (a : Answer). refusalOf a (ltb (length events / eventSize) (count s))) (sym ran) ∙ (λ i. cond (u i) (answer .refusal) (shortOfRoom (h i))));
+        place = sym (ap placeOf (sym ran) ∙ ap (λ (b : Bool). cond b (answer .place) 0) u);
+        left = ap (λ (o : Outcome). o .events) is;
+      }
+
+  -- refusals 1 to 6
+  pub not-judged : unjudged (answer .refusal) ≡ true → Judges s base events after (record { fits = false; refusal = answer .refusal; place = answer .place })
+  not-judged u =
+      judged false true (ltb (length events / eventSize) (count s))
+      (decided-no (λ h. false≢true (sym (ap unjudged (run-answer (sound-quiet s base events cited (h .0) (h .1)) .accepted)) ∙ u))) u refl
+
+  -- too little room
+  pub too-little : unjudged (answer .refusal) ≡ false → length events / eventSize < count s → Judges s base events after (record { fits = false; refusal = 7; place = 0 })
+  too-little u h = judged false false true (decided-no (λ o. omega (arith, h, o .1))) u (lt-ltb _ _ h)
+
+  module _ (u : unjudged (answer .refusal) ≡ false) (room : count s ≤ length events / eventSize) where
+    pub irregular : (Regular (allTokens s base) → ⊥) → Judges s base events after (record { fits = false; refusal = 0; place = 0 })
+    irregular n = judged false false false (decided-no (λ o. n (o .0 .regular))) u (le-ltb _ _ room)
+
+    pub by-the-run : (r : Bool) → Regular (allTokens s base) → (r ≡ true) ↔ QuietAnswer answer after → Judges s base events after (record { fits = r; refusal = 0; place = 0 })
+    by-the-run r g d =
+        judged r false false
+        (λ t. (quiet-sound s base events cited g (answer-run (d .0 t)), room), λ o. d .1 (run-answer (sound-quiet s base events cited (o .0) (o .1))))
+        u (le-ltb _ _ room)

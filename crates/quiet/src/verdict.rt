@@ -1,0 +1,63 @@
+// The yes: whether a list of token records is good to act on.
+use crate::regular::is_regular;
+use crate::run::is_quiet;
+use grammar::entries::parse_document;
+use rules::theorems::fits_then_quiet;
+use rules::theorems::quiet_exactly_when_fits_within;
+ghost use mathlib.Core.Path.{_≡_};
+ghost use Rattle.quiet.specs.Verdicts.{unjudged, Judges};
+
+// Whether the list fits; and if it was not judged, the refusal's number and its place, else 0 and 0.
+pub struct Verdict {
+    pub fits: bool,
+    pub refusal: u32,
+    pub place: usize,
+}
+
+// Refusals 1 to 6: the list is not judged.
+fn is_unjudged(refusal: u32) -> bool
+    ensures { λ r. ⌜ r ≡ unjudged refusal ⌝ }
+{
+    if refusal < 7 {
+        return 0 < refusal;
+    }
+    false
+}
+
+// The document entry is run with no room for errors: a list with an error does not fit. Room for as many events as there are records is
+// wanted, which is as many as a list that fits can have; where there is less, the list is not judged, and that is refusal 7.
+pub fn fits(records: &[u8], base: u32, events: &mut [u32]) -> Verdict
+    ensures { λ v. ⌜ Judges (now (records .entry)) base (now (events .entry)) (now (events .exit)) v ⌝ }
+{
+    let mut errors = [0u32; 0];
+    quiet_exactly_when_fits_within(records, base, events, &errors);
+    fits_then_quiet(records, base, events, &errors);
+    let answer = parse_document(records, base, events, &mut errors);
+    let refusal = answer.refusal;
+    if is_unjudged(refusal) {
+        return Verdict {
+            fits: false,
+            refusal,
+            place: answer.place,
+        };
+    }
+    if events.len() / 4 < records.len() / 6 {
+        return Verdict {
+            fits: false,
+            refusal: 7,
+            place: 0,
+        };
+    }
+    if is_regular(records, base) {
+        return Verdict {
+            fits: is_quiet(answer, events),
+            refusal: 0,
+            place: 0,
+        };
+    }
+    Verdict {
+        fits: false,
+        refusal: 0,
+        place: 0,
+    }
+}
