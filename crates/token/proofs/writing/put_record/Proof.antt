@@ -1,13 +1,13 @@
--- The six stores are the struct's record.
+-- The six stores are the record.
 -- Made by ./proofs from Proof.tmpl: change that.
 use Prim.Native.Nat.{_*_}
 use native.Mathlib.Omega.{arith}
 use lib.ListN.{length-set}
-use Rattle.structs.specs.Structs.{putAt}
-use Rattle.structs.proofs.StructLaws.{six-stores}
+use Rattle.token.specs.Writing.{putAt}
+use Rattle.token.specs.WritingLaws.{six-stores}
 use borrow.Author.Needs.{needs}
-use Rattle.structs.proofs.put.Statement.{statement}
-use Rattle.structs.proofs.put.Tie as tie
+use Rattle.token.proofs.writing.put_record.Statement.{statement}
+use Rattle.token.proofs.writing.put_record.Tie as tie
 
 mul-at : tie.Need-mul-at
 mul-at c = search needs
@@ -70,8 +70,8 @@ returns : tie.Need-returns
 unfolding putAt
 returns c = six-stores ((c .args) .records .now) (6 * (c .args) .i) _ _ _ _ _ _ (omega arith)
 
-pub put-spec : {M : Type 1} → statement M
-put-spec =
+pub put-record-spec : {M : Type 1} → statement M
+put-record-spec =
     tie.close
     (tie.spec
     mul-at

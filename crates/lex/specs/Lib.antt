@@ -1,0 +1,5 @@
+pub mod Refusals
+pub mod Lexed
+pub mod Tokens
+pub mod LexLaws
+pub mod TextLaws
