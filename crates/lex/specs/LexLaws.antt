@@ -142,7 +142,7 @@ module _ (s l : List ℕ) where
       no-room m q p =
           let r = no-room-by m q p (ltb (length l / 6) (length (tokensFrom s base))) refl in
           let k = ap length tokens-is in
-          rw (le-ltb maxEnd (length s) h, le-ltb (length s) (validUpTo s) (omega (arith, e, v)), lt-ltb (length l / 6) (length (tokensOf s)) (omega (arith, r .0, k)), r .1 ∙ k)
+          rw (le-ltb maxEnd (length s) h, le-ltb (validUpTo s) (length s) (omega (arith, e, v)), lt-ltb (length l / 6) (length (tokensOf s)) (omega (arith, r .0, k)), r .1 ∙ k)
 
       with-room-by : (m : ℕ) → Beyond m → m ≤ 0 → (t : Bool) → ltb (length l / 6) (length (tokensFrom s base)) ≡ t → length (tokensFrom s base) ≤ length l / 6
       with-room-by m q p true r = let z : m ≡ length (tokensFrom s base) = q ∙ rw r in absurd (omega (arith, z, p, some-tokens))
@@ -157,4 +157,4 @@ module _ (s l : List ℕ) where
       all-lexed m q p k l′ i j =
           let z = with-room-by m q p (ltb (length l / 6) (length (tokensFrom s base))) refl in
           let y = ap length tokens-is in
-          rw (le-ltb maxEnd (length s) h, le-ltb (length s) (validUpTo s) (omega (arith, e, v)), le-ltb (length (tokensOf s)) (length l / 6) (omega (arith, z, y)), i ∙ y, j ∙ ap (λ (ts : List Tok). recordsOf ts ++ drop (6 * length ts) l) tokens-is, b)
+          rw (le-ltb maxEnd (length s) h, le-ltb (validUpTo s) (length s) (omega (arith, e, v)), le-ltb (length l / 6) (length (tokensOf s)) (omega (arith, z, y)), i ∙ y, j ∙ ap (λ (ts : List Tok). recordsOf ts ++ drop (6 * length ts) l) tokens-is, b)

@@ -12,12 +12,12 @@ use Rattle.token.specs.Writing.{recordsOf}
 use Rattle.scan.specs.Lexer.{tokensOf, baseOf}
 
 -- they lie end to end from the base to the text's end, each as long as its kind allows; and are at most one more than bytes
-pub record EndToEnd (text : List ℕ) : Type 0 where
+pub record TokensEndToEnd (text : List ℕ) : Type 0 where
   pub laid : Laid (baseOf text) (tokensOf text)
   pub end : endOf (baseOf text) (tokensOf text) ≡ length text
   pub few : length (tokensOf text) ≤ length text + 1
 
 -- the records of a text that is not too long stand for its tokens; and if they are not too many, they pass the check of a list
-pub record ReadAgain (text : List ℕ) : Type 0 where
+pub record RecordsReadAgain (text : List ℕ) : Type 0 where
   pub read : length text ≤ maxEnd → allTokens (recordsOf (tokensOf text)) (baseOf text) ≡ tokensOf text
   pub passed : length text ≤ maxEnd → length (tokensOf text) ≤ maxRecords → checked (recordsOf (tokensOf text)) (baseOf text) ≡ Checked.Passed

@@ -1,15 +1,15 @@
 // One token: process_token of lexer/mod.rs.
+use crate::basic::lex_basic_string;
+use crate::basic::lex_ml_basic_string;
+use crate::literal::lex_literal_string;
+use crate::literal::lex_ml_literal_string;
+use crate::quotes::starts_three;
 use crate::scan::lex_atom;
 use crate::scan::lex_comment;
+use crate::scan::lex_crlf;
 use crate::scan::lex_whitespace;
 use crate::start::Start;
 use crate::start::start_of;
-use crate::strings::lex_basic_string;
-use crate::strings::lex_crlf;
-use crate::strings::lex_literal_string;
-use crate::strings::lex_ml_basic_string;
-use crate::strings::lex_ml_literal_string;
-use crate::strings::starts_three;
 use token::kind::Kind;
 ghost use mathlib.Core.Path.{_≡_};
 ghost use Prim.Native.Nat.{_<_};

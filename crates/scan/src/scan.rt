@@ -1,10 +1,11 @@
-// Where a token ends that goes on while its bytes are of a set: whitespace, a comment, an atom.
+// Where a token ends that goes on while its bytes are of a set: whitespace, a comment, an atom; and a newline.
+use places::is_at;
 use places::past_none_of;
 ghost use mathlib.Core.Path.{_≡_};
 ghost use Prim.Native.Nat.{_≤_};
 ghost use lib.ListN.{length};
 ghost use Rattle.places.specs.Places.{Scanned};
-ghost use Rattle.scan.specs.Lexer.{endsWhitespace, endsComment, endsAtom, lexWhitespace, lexComment, lexAtom};
+ghost use Rattle.scan.specs.Lexer.{endsWhitespace, endsComment, endsAtom, lexWhitespace, lexComment, lexCrlf, lexAtom};
 
 // The sets go by the byte itself and not by its class: the compiler makes few tests of bits of that.
 fn ends_whitespace(b: u8) -> bool
@@ -89,6 +90,16 @@ pub fn lex_comment(text: &[u8], at: usize) -> usize
         i += 1;
     }
     i
+}
+
+pub fn lex_crlf(text: &[u8], at: usize) -> usize
+    requires { ⌜ at ≤ length (now text) ⌝ }
+    ensures { λ r. ⌜ Scanned lexCrlf (now (text .entry)) at r ⌝ }
+{
+    if is_at(text, at, b'\n') {
+        return at + 1;
+    }
+    at
 }
 
 pub fn lex_atom(text: &[u8], at: usize) -> usize

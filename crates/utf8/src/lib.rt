@@ -1,4 +1,6 @@
 // How far a text is well-formed UTF-8.
+pub mod theorems;
+
 ghost use mathlib.Core.Path.{_≡_};
 ghost use mathlib.Core.List.{[], _∷_};
 ghost use mathlib.Core.Bool.{cond};

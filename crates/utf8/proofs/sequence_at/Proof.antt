@@ -28,7 +28,7 @@ two-requires c κs = omega (arith, (c .before .before .before .before .before .p
 
 returns-3 : tie.Need-returns-3
 unfolding fits
-returns-3 c = (c .two) .ensures ∙ sym (sequence-by ((c .before .before .before .before .before .before .args) .text .now) ((c .before .before .before .before .before .before .args) .at) (c .before .before .before .before .before .before .pre) ∙ simp (is-above 0 127 (getD ((c .before .before .before .before .before .before .args) .text .now) ((c .before .before .before .before .before .before .args) .at) 0) (omega (arith, (c .before .if3) .taken, (c .before .before .if2) .left)), is-within 194 223 (getD ((c .before .before .before .before .before .before .args) .text .now) ((c .before .before .before .before .before .before .args) .at) 0) (omega (arith, (c .before .if3) .taken, (c .before .before .if2) .left)) (omega (arith, (c .before .if3) .taken, (c .before .before .if2) .left))))
+returns-3 c = (c .two) .ensures ∙ sym (sequence-by ((c .before .before .before .before .before .before .args) .text .now) ((c .before .before .before .before .before .before .args) .at) (c .before .before .before .before .before .before .pre) ∙ simp (is-above 0 127 (getD ((c .before .before .before .before .before .before .args) .text .now) ((c .before .before .before .before .before .before .args) .at) 0) (omega (arith, (c .before .if3) .taken, (c .before .before .if2) .left)), is-within 194 223 (getD ((c .before .before .before .before .before .before .args) .text .now) ((c .before .before .before .before .before .before .args) .at) 0) (omega (arith, (c .before .if3) .taken, (c .before .before .if2) .left)) (omega (arith, (c .before .if3) .taken, (c .before .before .if2) .left)), is-below 224 224 (getD ((c .before .before .before .before .before .before .args) .text .now) ((c .before .before .before .before .before .before .args) .at) 0) (omega (arith, (c .before .if3) .taken, (c .before .before .if2) .left)), is-below 225 236 (getD ((c .before .before .before .before .before .before .args) .text .now) ((c .before .before .before .before .before .before .args) .at) 0) (omega (arith, (c .before .if3) .taken, (c .before .before .if2) .left)), is-below 237 237 (getD ((c .before .before .before .before .before .before .args) .text .now) ((c .before .before .before .before .before .before .args) .at) 0) (omega (arith, (c .before .if3) .taken, (c .before .before .if2) .left)), is-below 238 239 (getD ((c .before .before .before .before .before .before .args) .text .now) ((c .before .before .before .before .before .before .args) .at) 0) (omega (arith, (c .before .if3) .taken, (c .before .before .if2) .left)), is-below 240 240 (getD ((c .before .before .before .before .before .before .args) .text .now) ((c .before .before .before .before .before .before .args) .at) 0) (omega (arith, (c .before .if3) .taken, (c .before .before .if2) .left)), is-below 241 243 (getD ((c .before .before .before .before .before .before .args) .text .now) ((c .before .before .before .before .before .before .args) .at) 0) (omega (arith, (c .before .if3) .taken, (c .before .before .if2) .left)), is-below 244 244 (getD ((c .before .before .before .before .before .before .args) .text .now) ((c .before .before .before .before .before .before .args) .at) 0) (omega (arith, (c .before .if3) .taken, (c .before .before .if2) .left))))
 
 add-three : tie.Need-add-three
 add-three c = search needs
@@ -38,7 +38,7 @@ three-requires c κs = omega (arith, (c .before .before .before .before .before 
 
 returns-4 : tie.Need-returns-4
 unfolding fits
-returns-4 c = (c .three) .ensures ∙ sym (sequence-by ((c .before .before .before .before .before .before .before .args) .text .now) ((c .before .before .before .before .before .before .before .args) .at) (c .before .before .before .before .before .before .before .pre) ∙ simp (is-above 0 127 (getD ((c .before .before .before .before .before .before .before .args) .text .now) ((c .before .before .before .before .before .before .before .args) .at) 0) (omega (arith, (c .before .if4) .taken, (c .before .before .if3) .left)), is-above 194 223 (getD ((c .before .before .before .before .before .before .before .args) .text .now) ((c .before .before .before .before .before .before .before .args) .at) 0) (omega (arith, (c .before .if4) .taken, (c .before .before .if3) .left)), is-within 224 224 (getD ((c .before .before .before .before .before .before .before .args) .text .now) ((c .before .before .before .before .before .before .before .args) .at) 0) (omega (arith, (c .before .if4) .taken, (c .before .before .if3) .left)) (omega (arith, (c .before .if4) .taken, (c .before .before .if3) .left))))
+returns-4 c = (c .three) .ensures ∙ sym (sequence-by ((c .before .before .before .before .before .before .before .args) .text .now) ((c .before .before .before .before .before .before .before .args) .at) (c .before .before .before .before .before .before .before .pre) ∙ simp (is-above 0 127 (getD ((c .before .before .before .before .before .before .before .args) .text .now) ((c .before .before .before .before .before .before .before .args) .at) 0) (omega (arith, (c .before .if4) .taken, (c .before .before .if3) .left)), is-above 194 223 (getD ((c .before .before .before .before .before .before .before .args) .text .now) ((c .before .before .before .before .before .before .before .args) .at) 0) (omega (arith, (c .before .if4) .taken, (c .before .before .if3) .left)), is-within 224 224 (getD ((c .before .before .before .before .before .before .before .args) .text .now) ((c .before .before .before .before .before .before .before .args) .at) 0) (omega (arith, (c .before .if4) .taken, (c .before .before .if3) .left)) (omega (arith, (c .before .if4) .taken, (c .before .before .if3) .left)), is-below 225 236 (getD ((c .before .before .before .before .before .before .before .args) .text .now) ((c .before .before .before .before .before .before .before .args) .at) 0) (omega (arith, (c .before .if4) .taken, (c .before .before .if3) .left)), is-below 237 237 (getD ((c .before .before .before .before .before .before .before .args) .text .now) ((c .before .before .before .before .before .before .before .args) .at) 0) (omega (arith, (c .before .if4) .taken, (c .before .before .if3) .left)), is-below 238 239 (getD ((c .before .before .before .before .before .before .before .args) .text .now) ((c .before .before .before .before .before .before .before .args) .at) 0) (omega (arith, (c .before .if4) .taken, (c .before .before .if3) .left)), is-below 240 240 (getD ((c .before .before .before .before .before .before .before .args) .text .now) ((c .before .before .before .before .before .before .before .args) .at) 0) (omega (arith, (c .before .if4) .taken, (c .before .before .if3) .left)), is-below 241 243 (getD ((c .before .before .before .before .before .before .before .args) .text .now) ((c .before .before .before .before .before .before .before .args) .at) 0) (omega (arith, (c .before .if4) .taken, (c .before .before .if3) .left)), is-below 244 244 (getD ((c .before .before .before .before .before .before .before .args) .text .now) ((c .before .before .before .before .before .before .before .args) .at) 0) (omega (arith, (c .before .if4) .taken, (c .before .before .if3) .left))))
 
 add-three-2 : tie.Need-add-three-2
 add-three-2 c = search needs
@@ -48,7 +48,7 @@ three-requires-2 c κs = search needs
 
 returns-5 : tie.Need-returns-5
 unfolding fits
-returns-5 c = (c .three2) .ensures ∙ sym (sequence-by ((c .before .before .before .before .before .before .before .before .args) .text .now) ((c .before .before .before .before .before .before .before .before .args) .at) (c .before .before .before .before .before .before .before .before .pre) ∙ simp (is-above 0 127 (getD ((c .before .before .before .before .before .before .before .before .args) .text .now) ((c .before .before .before .before .before .before .before .before .args) .at) 0) (omega (arith, (c .before .if5) .taken, (c .before .before .if4) .left)), is-above 194 223 (getD ((c .before .before .before .before .before .before .before .before .args) .text .now) ((c .before .before .before .before .before .before .before .before .args) .at) 0) (omega (arith, (c .before .if5) .taken, (c .before .before .if4) .left)), is-above 224 224 (getD ((c .before .before .before .before .before .before .before .before .args) .text .now) ((c .before .before .before .before .before .before .before .before .args) .at) 0) (omega (arith, (c .before .if5) .taken, (c .before .before .if4) .left)), is-within 225 236 (getD ((c .before .before .before .before .before .before .before .before .args) .text .now) ((c .before .before .before .before .before .before .before .before .args) .at) 0) (omega (arith, (c .before .if5) .taken, (c .before .before .if4) .left)) (omega (arith, (c .before .if5) .taken, (c .before .before .if4) .left))))
+returns-5 c = (c .three2) .ensures ∙ sym (sequence-by ((c .before .before .before .before .before .before .before .before .args) .text .now) ((c .before .before .before .before .before .before .before .before .args) .at) (c .before .before .before .before .before .before .before .before .pre) ∙ simp (is-above 0 127 (getD ((c .before .before .before .before .before .before .before .before .args) .text .now) ((c .before .before .before .before .before .before .before .before .args) .at) 0) (omega (arith, (c .before .if5) .taken, (c .before .before .if4) .left)), is-above 194 223 (getD ((c .before .before .before .before .before .before .before .before .args) .text .now) ((c .before .before .before .before .before .before .before .before .args) .at) 0) (omega (arith, (c .before .if5) .taken, (c .before .before .if4) .left)), is-above 224 224 (getD ((c .before .before .before .before .before .before .before .before .args) .text .now) ((c .before .before .before .before .before .before .before .before .args) .at) 0) (omega (arith, (c .before .if5) .taken, (c .before .before .if4) .left)), is-within 225 236 (getD ((c .before .before .before .before .before .before .before .before .args) .text .now) ((c .before .before .before .before .before .before .before .before .args) .at) 0) (omega (arith, (c .before .if5) .taken, (c .before .before .if4) .left)) (omega (arith, (c .before .if5) .taken, (c .before .before .if4) .left)), is-below 237 237 (getD ((c .before .before .before .before .before .before .before .before .args) .text .now) ((c .before .before .before .before .before .before .before .before .args) .at) 0) (omega (arith, (c .before .if5) .taken, (c .before .before .if4) .left)), is-below 238 239 (getD ((c .before .before .before .before .before .before .before .before .args) .text .now) ((c .before .before .before .before .before .before .before .before .args) .at) 0) (omega (arith, (c .before .if5) .taken, (c .before .before .if4) .left)), is-below 240 240 (getD ((c .before .before .before .before .before .before .before .before .args) .text .now) ((c .before .before .before .before .before .before .before .before .args) .at) 0) (omega (arith, (c .before .if5) .taken, (c .before .before .if4) .left)), is-below 241 243 (getD ((c .before .before .before .before .before .before .before .before .args) .text .now) ((c .before .before .before .before .before .before .before .before .args) .at) 0) (omega (arith, (c .before .if5) .taken, (c .before .before .if4) .left)), is-below 244 244 (getD ((c .before .before .before .before .before .before .before .before .args) .text .now) ((c .before .before .before .before .before .before .before .before .args) .at) 0) (omega (arith, (c .before .if5) .taken, (c .before .before .if4) .left))))
 
 add-three-3 : tie.Need-add-three-3
 add-three-3 c = search needs
@@ -58,7 +58,7 @@ three-requires-3 c κs = search needs
 
 returns-6 : tie.Need-returns-6
 unfolding fits
-returns-6 c = (c .three3) .ensures ∙ sym (sequence-by ((c .before .before .before .before .before .before .before .before .before .args) .text .now) ((c .before .before .before .before .before .before .before .before .before .args) .at) (c .before .before .before .before .before .before .before .before .before .pre) ∙ simp (is-above 0 127 (getD ((c .before .before .before .before .before .before .before .before .before .args) .text .now) ((c .before .before .before .before .before .before .before .before .before .args) .at) 0) (omega (arith, (c .before .if6) .taken, (c .before .before .if5) .left)), is-above 194 223 (getD ((c .before .before .before .before .before .before .before .before .before .args) .text .now) ((c .before .before .before .before .before .before .before .before .before .args) .at) 0) (omega (arith, (c .before .if6) .taken, (c .before .before .if5) .left)), is-above 224 224 (getD ((c .before .before .before .before .before .before .before .before .before .args) .text .now) ((c .before .before .before .before .before .before .before .before .before .args) .at) 0) (omega (arith, (c .before .if6) .taken, (c .before .before .if5) .left)), is-above 225 236 (getD ((c .before .before .before .before .before .before .before .before .before .args) .text .now) ((c .before .before .before .before .before .before .before .before .before .args) .at) 0) (omega (arith, (c .before .if6) .taken, (c .before .before .if5) .left)), is-within 237 237 (getD ((c .before .before .before .before .before .before .before .before .before .args) .text .now) ((c .before .before .before .before .before .before .before .before .before .args) .at) 0) (omega (arith, (c .before .if6) .taken, (c .before .before .if5) .left)) (omega (arith, (c .before .if6) .taken, (c .before .before .if5) .left))))
+returns-6 c = (c .three3) .ensures ∙ sym (sequence-by ((c .before .before .before .before .before .before .before .before .before .args) .text .now) ((c .before .before .before .before .before .before .before .before .before .args) .at) (c .before .before .before .before .before .before .before .before .before .pre) ∙ simp (is-above 0 127 (getD ((c .before .before .before .before .before .before .before .before .before .args) .text .now) ((c .before .before .before .before .before .before .before .before .before .args) .at) 0) (omega (arith, (c .before .if6) .taken, (c .before .before .if5) .left)), is-above 194 223 (getD ((c .before .before .before .before .before .before .before .before .before .args) .text .now) ((c .before .before .before .before .before .before .before .before .before .args) .at) 0) (omega (arith, (c .before .if6) .taken, (c .before .before .if5) .left)), is-above 224 224 (getD ((c .before .before .before .before .before .before .before .before .before .args) .text .now) ((c .before .before .before .before .before .before .before .before .before .args) .at) 0) (omega (arith, (c .before .if6) .taken, (c .before .before .if5) .left)), is-above 225 236 (getD ((c .before .before .before .before .before .before .before .before .before .args) .text .now) ((c .before .before .before .before .before .before .before .before .before .args) .at) 0) (omega (arith, (c .before .if6) .taken, (c .before .before .if5) .left)), is-within 237 237 (getD ((c .before .before .before .before .before .before .before .before .before .args) .text .now) ((c .before .before .before .before .before .before .before .before .before .args) .at) 0) (omega (arith, (c .before .if6) .taken, (c .before .before .if5) .left)) (omega (arith, (c .before .if6) .taken, (c .before .before .if5) .left)), is-below 238 239 (getD ((c .before .before .before .before .before .before .before .before .before .args) .text .now) ((c .before .before .before .before .before .before .before .before .before .args) .at) 0) (omega (arith, (c .before .if6) .taken, (c .before .before .if5) .left)), is-below 240 240 (getD ((c .before .before .before .before .before .before .before .before .before .args) .text .now) ((c .before .before .before .before .before .before .before .before .before .args) .at) 0) (omega (arith, (c .before .if6) .taken, (c .before .before .if5) .left)), is-below 241 243 (getD ((c .before .before .before .before .before .before .before .before .before .args) .text .now) ((c .before .before .before .before .before .before .before .before .before .args) .at) 0) (omega (arith, (c .before .if6) .taken, (c .before .before .if5) .left)), is-below 244 244 (getD ((c .before .before .before .before .before .before .before .before .before .args) .text .now) ((c .before .before .before .before .before .before .before .before .before .args) .at) 0) (omega (arith, (c .before .if6) .taken, (c .before .before .if5) .left))))
 
 add-three-4 : tie.Need-add-three-4
 add-three-4 c = search needs
@@ -68,7 +68,7 @@ three-requires-4 c κs = search needs
 
 returns-7 : tie.Need-returns-7
 unfolding fits
-returns-7 c = (c .three4) .ensures ∙ sym (sequence-by ((c .before .before .before .before .before .before .before .before .before .before .args) .text .now) ((c .before .before .before .before .before .before .before .before .before .before .args) .at) (c .before .before .before .before .before .before .before .before .before .before .pre) ∙ simp (is-above 0 127 (getD ((c .before .before .before .before .before .before .before .before .before .before .args) .text .now) ((c .before .before .before .before .before .before .before .before .before .before .args) .at) 0) (omega (arith, (c .before .if7) .taken, (c .before .before .if6) .left)), is-above 194 223 (getD ((c .before .before .before .before .before .before .before .before .before .before .args) .text .now) ((c .before .before .before .before .before .before .before .before .before .before .args) .at) 0) (omega (arith, (c .before .if7) .taken, (c .before .before .if6) .left)), is-above 224 224 (getD ((c .before .before .before .before .before .before .before .before .before .before .args) .text .now) ((c .before .before .before .before .before .before .before .before .before .before .args) .at) 0) (omega (arith, (c .before .if7) .taken, (c .before .before .if6) .left)), is-above 225 236 (getD ((c .before .before .before .before .before .before .before .before .before .before .args) .text .now) ((c .before .before .before .before .before .before .before .before .before .before .args) .at) 0) (omega (arith, (c .before .if7) .taken, (c .before .before .if6) .left)), is-above 237 237 (getD ((c .before .before .before .before .before .before .before .before .before .before .args) .text .now) ((c .before .before .before .before .before .before .before .before .before .before .args) .at) 0) (omega (arith, (c .before .if7) .taken, (c .before .before .if6) .left)), is-within 238 239 (getD ((c .before .before .before .before .before .before .before .before .before .before .args) .text .now) ((c .before .before .before .before .before .before .before .before .before .before .args) .at) 0) (omega (arith, (c .before .if7) .taken, (c .before .before .if6) .left)) (omega (arith, (c .before .if7) .taken, (c .before .before .if6) .left))))
+returns-7 c = (c .three4) .ensures ∙ sym (sequence-by ((c .before .before .before .before .before .before .before .before .before .before .args) .text .now) ((c .before .before .before .before .before .before .before .before .before .before .args) .at) (c .before .before .before .before .before .before .before .before .before .before .pre) ∙ simp (is-above 0 127 (getD ((c .before .before .before .before .before .before .before .before .before .before .args) .text .now) ((c .before .before .before .before .before .before .before .before .before .before .args) .at) 0) (omega (arith, (c .before .if7) .taken, (c .before .before .if6) .left)), is-above 194 223 (getD ((c .before .before .before .before .before .before .before .before .before .before .args) .text .now) ((c .before .before .before .before .before .before .before .before .before .before .args) .at) 0) (omega (arith, (c .before .if7) .taken, (c .before .before .if6) .left)), is-above 224 224 (getD ((c .before .before .before .before .before .before .before .before .before .before .args) .text .now) ((c .before .before .before .before .before .before .before .before .before .before .args) .at) 0) (omega (arith, (c .before .if7) .taken, (c .before .before .if6) .left)), is-above 225 236 (getD ((c .before .before .before .before .before .before .before .before .before .before .args) .text .now) ((c .before .before .before .before .before .before .before .before .before .before .args) .at) 0) (omega (arith, (c .before .if7) .taken, (c .before .before .if6) .left)), is-above 237 237 (getD ((c .before .before .before .before .before .before .before .before .before .before .args) .text .now) ((c .before .before .before .before .before .before .before .before .before .before .args) .at) 0) (omega (arith, (c .before .if7) .taken, (c .before .before .if6) .left)), is-within 238 239 (getD ((c .before .before .before .before .before .before .before .before .before .before .args) .text .now) ((c .before .before .before .before .before .before .before .before .before .before .args) .at) 0) (omega (arith, (c .before .if7) .taken, (c .before .before .if6) .left)) (omega (arith, (c .before .if7) .taken, (c .before .before .if6) .left)), is-below 240 240 (getD ((c .before .before .before .before .before .before .before .before .before .before .args) .text .now) ((c .before .before .before .before .before .before .before .before .before .before .args) .at) 0) (omega (arith, (c .before .if7) .taken, (c .before .before .if6) .left)), is-below 241 243 (getD ((c .before .before .before .before .before .before .before .before .before .before .args) .text .now) ((c .before .before .before .before .before .before .before .before .before .before .args) .at) 0) (omega (arith, (c .before .if7) .taken, (c .before .before .if6) .left)), is-below 244 244 (getD ((c .before .before .before .before .before .before .before .before .before .before .args) .text .now) ((c .before .before .before .before .before .before .before .before .before .before .args) .at) 0) (omega (arith, (c .before .if7) .taken, (c .before .before .if6) .left))))
 
 add-four : tie.Need-add-four
 add-four c = search needs
@@ -78,7 +78,7 @@ four-requires c κs = omega (arith, (c .before .before .before .before .before .
 
 returns-8 : tie.Need-returns-8
 unfolding fits
-returns-8 c = (c .four) .ensures ∙ sym (sequence-by ((c .before .before .before .before .before .before .before .before .before .before .before .args) .text .now) ((c .before .before .before .before .before .before .before .before .before .before .before .args) .at) (c .before .before .before .before .before .before .before .before .before .before .before .pre) ∙ simp (is-above 0 127 (getD ((c .before .before .before .before .before .before .before .before .before .before .before .args) .text .now) ((c .before .before .before .before .before .before .before .before .before .before .before .args) .at) 0) (omega (arith, (c .before .if8) .taken, (c .before .before .if7) .left)), is-above 194 223 (getD ((c .before .before .before .before .before .before .before .before .before .before .before .args) .text .now) ((c .before .before .before .before .before .before .before .before .before .before .before .args) .at) 0) (omega (arith, (c .before .if8) .taken, (c .before .before .if7) .left)), is-above 224 224 (getD ((c .before .before .before .before .before .before .before .before .before .before .before .args) .text .now) ((c .before .before .before .before .before .before .before .before .before .before .before .args) .at) 0) (omega (arith, (c .before .if8) .taken, (c .before .before .if7) .left)), is-above 225 236 (getD ((c .before .before .before .before .before .before .before .before .before .before .before .args) .text .now) ((c .before .before .before .before .before .before .before .before .before .before .before .args) .at) 0) (omega (arith, (c .before .if8) .taken, (c .before .before .if7) .left)), is-above 237 237 (getD ((c .before .before .before .before .before .before .before .before .before .before .before .args) .text .now) ((c .before .before .before .before .before .before .before .before .before .before .before .args) .at) 0) (omega (arith, (c .before .if8) .taken, (c .before .before .if7) .left)), is-above 238 239 (getD ((c .before .before .before .before .before .before .before .before .before .before .before .args) .text .now) ((c .before .before .before .before .before .before .before .before .before .before .before .args) .at) 0) (omega (arith, (c .before .if8) .taken, (c .before .before .if7) .left)), is-within 240 240 (getD ((c .before .before .before .before .before .before .before .before .before .before .before .args) .text .now) ((c .before .before .before .before .before .before .before .before .before .before .before .args) .at) 0) (omega (arith, (c .before .if8) .taken, (c .before .before .if7) .left)) (omega (arith, (c .before .if8) .taken, (c .before .before .if7) .left))))
+returns-8 c = (c .four) .ensures ∙ sym (sequence-by ((c .before .before .before .before .before .before .before .before .before .before .before .args) .text .now) ((c .before .before .before .before .before .before .before .before .before .before .before .args) .at) (c .before .before .before .before .before .before .before .before .before .before .before .pre) ∙ simp (is-above 0 127 (getD ((c .before .before .before .before .before .before .before .before .before .before .before .args) .text .now) ((c .before .before .before .before .before .before .before .before .before .before .before .args) .at) 0) (omega (arith, (c .before .if8) .taken, (c .before .before .if7) .left)), is-above 194 223 (getD ((c .before .before .before .before .before .before .before .before .before .before .before .args) .text .now) ((c .before .before .before .before .before .before .before .before .before .before .before .args) .at) 0) (omega (arith, (c .before .if8) .taken, (c .before .before .if7) .left)), is-above 224 224 (getD ((c .before .before .before .before .before .before .before .before .before .before .before .args) .text .now) ((c .before .before .before .before .before .before .before .before .before .before .before .args) .at) 0) (omega (arith, (c .before .if8) .taken, (c .before .before .if7) .left)), is-above 225 236 (getD ((c .before .before .before .before .before .before .before .before .before .before .before .args) .text .now) ((c .before .before .before .before .before .before .before .before .before .before .before .args) .at) 0) (omega (arith, (c .before .if8) .taken, (c .before .before .if7) .left)), is-above 237 237 (getD ((c .before .before .before .before .before .before .before .before .before .before .before .args) .text .now) ((c .before .before .before .before .before .before .before .before .before .before .before .args) .at) 0) (omega (arith, (c .before .if8) .taken, (c .before .before .if7) .left)), is-above 238 239 (getD ((c .before .before .before .before .before .before .before .before .before .before .before .args) .text .now) ((c .before .before .before .before .before .before .before .before .before .before .before .args) .at) 0) (omega (arith, (c .before .if8) .taken, (c .before .before .if7) .left)), is-within 240 240 (getD ((c .before .before .before .before .before .before .before .before .before .before .before .args) .text .now) ((c .before .before .before .before .before .before .before .before .before .before .before .args) .at) 0) (omega (arith, (c .before .if8) .taken, (c .before .before .if7) .left)) (omega (arith, (c .before .if8) .taken, (c .before .before .if7) .left)), is-below 241 243 (getD ((c .before .before .before .before .before .before .before .before .before .before .before .args) .text .now) ((c .before .before .before .before .before .before .before .before .before .before .before .args) .at) 0) (omega (arith, (c .before .if8) .taken, (c .before .before .if7) .left)), is-below 244 244 (getD ((c .before .before .before .before .before .before .before .before .before .before .before .args) .text .now) ((c .before .before .before .before .before .before .before .before .before .before .before .args) .at) 0) (omega (arith, (c .before .if8) .taken, (c .before .before .if7) .left))))
 
 add-four-2 : tie.Need-add-four-2
 add-four-2 c = search needs
@@ -88,7 +88,7 @@ four-requires-2 c κs = search needs
 
 returns-9 : tie.Need-returns-9
 unfolding fits
-returns-9 c = (c .four2) .ensures ∙ sym (sequence-by ((c .before .before .before .before .before .before .before .before .before .before .before .before .args) .text .now) ((c .before .before .before .before .before .before .before .before .before .before .before .before .args) .at) (c .before .before .before .before .before .before .before .before .before .before .before .before .pre) ∙ simp (is-above 0 127 (getD ((c .before .before .before .before .before .before .before .before .before .before .before .before .args) .text .now) ((c .before .before .before .before .before .before .before .before .before .before .before .before .args) .at) 0) (omega (arith, (c .before .if9) .taken, (c .before .before .if8) .left)), is-above 194 223 (getD ((c .before .before .before .before .before .before .before .before .before .before .before .before .args) .text .now) ((c .before .before .before .before .before .before .before .before .before .before .before .before .args) .at) 0) (omega (arith, (c .before .if9) .taken, (c .before .before .if8) .left)), is-above 224 224 (getD ((c .before .before .before .before .before .before .before .before .before .before .before .before .args) .text .now) ((c .before .before .before .before .before .before .before .before .before .before .before .before .args) .at) 0) (omega (arith, (c .before .if9) .taken, (c .before .before .if8) .left)), is-above 225 236 (getD ((c .before .before .before .before .before .before .before .before .before .before .before .before .args) .text .now) ((c .before .before .before .before .before .before .before .before .before .before .before .before .args) .at) 0) (omega (arith, (c .before .if9) .taken, (c .before .before .if8) .left)), is-above 237 237 (getD ((c .before .before .before .before .before .before .before .before .before .before .before .before .args) .text .now) ((c .before .before .before .before .before .before .before .before .before .before .before .before .args) .at) 0) (omega (arith, (c .before .if9) .taken, (c .before .before .if8) .left)), is-above 238 239 (getD ((c .before .before .before .before .before .before .before .before .before .before .before .before .args) .text .now) ((c .before .before .before .before .before .before .before .before .before .before .before .before .args) .at) 0) (omega (arith, (c .before .if9) .taken, (c .before .before .if8) .left)), is-above 240 240 (getD ((c .before .before .before .before .before .before .before .before .before .before .before .before .args) .text .now) ((c .before .before .before .before .before .before .before .before .before .before .before .before .args) .at) 0) (omega (arith, (c .before .if9) .taken, (c .before .before .if8) .left)), is-within 241 243 (getD ((c .before .before .before .before .before .before .before .before .before .before .before .before .args) .text .now) ((c .before .before .before .before .before .before .before .before .before .before .before .before .args) .at) 0) (omega (arith, (c .before .if9) .taken, (c .before .before .if8) .left)) (omega (arith, (c .before .if9) .taken, (c .before .before .if8) .left))))
+returns-9 c = (c .four2) .ensures ∙ sym (sequence-by ((c .before .before .before .before .before .before .before .before .before .before .before .before .args) .text .now) ((c .before .before .before .before .before .before .before .before .before .before .before .before .args) .at) (c .before .before .before .before .before .before .before .before .before .before .before .before .pre) ∙ simp (is-above 0 127 (getD ((c .before .before .before .before .before .before .before .before .before .before .before .before .args) .text .now) ((c .before .before .before .before .before .before .before .before .before .before .before .before .args) .at) 0) (omega (arith, (c .before .if9) .taken, (c .before .before .if8) .left)), is-above 194 223 (getD ((c .before .before .before .before .before .before .before .before .before .before .before .before .args) .text .now) ((c .before .before .before .before .before .before .before .before .before .before .before .before .args) .at) 0) (omega (arith, (c .before .if9) .taken, (c .before .before .if8) .left)), is-above 224 224 (getD ((c .before .before .before .before .before .before .before .before .before .before .before .before .args) .text .now) ((c .before .before .before .before .before .before .before .before .before .before .before .before .args) .at) 0) (omega (arith, (c .before .if9) .taken, (c .before .before .if8) .left)), is-above 225 236 (getD ((c .before .before .before .before .before .before .before .before .before .before .before .before .args) .text .now) ((c .before .before .before .before .before .before .before .before .before .before .before .before .args) .at) 0) (omega (arith, (c .before .if9) .taken, (c .before .before .if8) .left)), is-above 237 237 (getD ((c .before .before .before .before .before .before .before .before .before .before .before .before .args) .text .now) ((c .before .before .before .before .before .before .before .before .before .before .before .before .args) .at) 0) (omega (arith, (c .before .if9) .taken, (c .before .before .if8) .left)), is-above 238 239 (getD ((c .before .before .before .before .before .before .before .before .before .before .before .before .args) .text .now) ((c .before .before .before .before .before .before .before .before .before .before .before .before .args) .at) 0) (omega (arith, (c .before .if9) .taken, (c .before .before .if8) .left)), is-above 240 240 (getD ((c .before .before .before .before .before .before .before .before .before .before .before .before .args) .text .now) ((c .before .before .before .before .before .before .before .before .before .before .before .before .args) .at) 0) (omega (arith, (c .before .if9) .taken, (c .before .before .if8) .left)), is-within 241 243 (getD ((c .before .before .before .before .before .before .before .before .before .before .before .before .args) .text .now) ((c .before .before .before .before .before .before .before .before .before .before .before .before .args) .at) 0) (omega (arith, (c .before .if9) .taken, (c .before .before .if8) .left)) (omega (arith, (c .before .if9) .taken, (c .before .before .if8) .left)), is-below 244 244 (getD ((c .before .before .before .before .before .before .before .before .before .before .before .before .args) .text .now) ((c .before .before .before .before .before .before .before .before .before .before .before .before .args) .at) 0) (omega (arith, (c .before .if9) .taken, (c .before .before .if8) .left))))
 
 add-four-3 : tie.Need-add-four-3
 add-four-3 c = search needs

@@ -1,7 +1,7 @@
 -- ASCII bytes, or a longer sequence.
 -- Made by ./proofs from Proof.tmpl: change that.
 use native.Mathlib.Omega.{arith}
-use lib.ListN.{length-drop}
+use lib.ListN.{getD}
 use borrow.Author.Tests.{le-leb}
 use Rattle.utf8.specs.Utf8Laws.{step-ascii, step-some, some-within}
 use borrow.Author.Needs.{needs}
@@ -18,7 +18,7 @@ past-ascii-requires : tie.Need-past-ascii-requires
 past-ascii-requires c κs = omega (arith, (c .before .before .before .pre))
 
 returns : tie.Need-returns
-returns c = step-ascii ((c .before .before .before .before .args) .text .now) ((c .before .before .before .before .args) .at) (c .before .before .before .before .pre) _ (le-leb _ 127 (omega (arith, (c .before .if1) .taken))) ((c .past-ascii) .ensures)
+returns c = step-ascii ((c .before .before .before .before .args) .text .now) ((c .before .before .before .before .args) .at) (c .before .before .before .before .pre) _ (le-leb (getD ((c .before .before .before .before .args) .text .now) ((c .before .before .before .before .args) .at) 0) 127 (omega (arith, (c .before .if1) .taken))) ((c .past-ascii) .ensures)
 
 sequence-at-requires : tie.Need-sequence-at-requires
 sequence-at-requires c κs = search needs
