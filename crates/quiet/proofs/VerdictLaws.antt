@@ -7,7 +7,7 @@ use Prim.Native.Nat.{ℕ, _/_, _<_, _≤_}
 use native.Mathlib.Omega.{arith}
 use lib.ListN.{length}
 use lib.Dec.{ltb}
-use borrow.Author.Tests.{lt-ltb, le-ltb}
+use borrow.Author.Tests.{ltb-false, lt-ltb, le-ltb}
 use Rattle.token.specs.declared.check.Checked.{Checked}
 use Rattle.token.specs.Records.{count}
 use Rattle.token.specs.Tokens.{Tok, allTokens}
@@ -24,7 +24,7 @@ use Rattle.rules.specs.Premises.{Regular, Ready, documentRun}
 use Rattle.grammar.specs.Answers.{Answers}
 use Rattle.quiet.specs.declared.verdict.Verdict.{Verdict}
 use Rattle.quiet.specs.Runs.{QuietAnswer}
-use Rattle.quiet.specs.Verdicts.{Sound, Roomy, unjudged, shortOfRoom, refusalOf, placeOf, Judges, Judgement, DeterminedVerdict}
+use Rattle.quiet.specs.Verdicts.{Sound, Roomy, unjudged, shortOfRoom, refusalOf, placeOf, Judges, Judgement, DeterminedVerdict, Judged}
 use Rattle.quiet.proofs.Decided.{decided-no, decided-once}
 
 -- both answers are what the contract says, part by part
@@ -37,9 +37,13 @@ determined s base events x y p q =
     λ i. record { verdict = record { fits = fits i; refusal = refusal i; place = place i }; events = left i }
 
 -- what the theorems about the rules say of the run
+abbrev pub FitsThenQuiet : List ℕ → ℕ → List ℕ → Type 0
+FitsThenQuiet s base events =
+    checked s base ≡ Checked.Passed → Regular (allTokens s base) → length (allTokens s base) ≤ length events / eventSize → FitsWithin maxDepth (allTokens s base) → QuietRun (documentRun s base events [])
+
 pub record Cited (s : List ℕ) (base : ℕ) (events : List ℕ) : Type 0 where
   pub within : Ready s base events [] → QuietRun (documentRun s base events []) ↔ FitsWithin maxDepth (allTokens s base)
-  pub quiet : checked s base ≡ Checked.Passed → Regular (allTokens s base) → length (allTokens s base) ≤ length events / eventSize → FitsWithin maxDepth (allTokens s base) → QuietRun (documentRun s base events [])
+  pub quiet : FitsThenQuiet s base events
 
 -- a quiet run has passed the check
 passed-by : (c : Checked) (s : List ℕ) (base : ℕ) (events : List ℕ) → checked s base ≡ c → QuietRun (outcomeBy c documentEntry s base events []) → checked s base ≡ Checked.Passed
@@ -56,8 +60,8 @@ quiet-sound s base events t g q =
     let p = quiet-passed s base events q in
     record { passed = p; regular = g; fitting = t .within (record { passed = p; regular = g; room = λ e. omega (arith, e, q .accepted) }) .0 q }
 
-sound-quiet : (s : List ℕ) (base : ℕ) (events : List ℕ) → Cited s base events → Sound s base → Roomy s events → QuietRun (documentRun s base events [])
-sound-quiet s base events t o h = t .quiet (o .passed) (o .regular) (omega (arith, h, all-length s base)) (o .fitting)
+sound-quiet : (s : List ℕ) (base : ℕ) (events : List ℕ) → FitsThenQuiet s base events → Sound s base → Roomy s events → QuietRun (documentRun s base events [])
+sound-quiet s base events t o h = t (o .passed) (o .regular) (omega (arith, h, all-length s base)) (o .fitting)
 
 -- from here on `answer` is the run's, and `after` and `errors` the buffers behind it
 module _ (s : List ℕ) (base : ℕ) (events after errors : List ℕ) (answer : Answer) (is : Answers documentEntry s base events [] after errors answer) (cited : Cited s base events) where
@@ -92,7 +96,7 @@ module _ (s : List ℕ) (base : ℕ) (events after errors : List ℕ) (answer : 
   pub not-judged : unjudged (answer .refusal) ≡ true → Judges s base events after (record { fits = false; refusal = answer .refusal; place = answer .place })
   not-judged u =
       judged false true (ltb (length events / eventSize) (count s))
-      (decided-no (λ h. false≢true (sym (ap unjudged (run-answer (sound-quiet s base events cited (h .0) (h .1)) .accepted)) ∙ u))) u refl
+      (decided-no (λ h. false≢true (sym (ap unjudged (run-answer (sound-quiet s base events (cited .quiet) (h .0) (h .1)) .accepted)) ∙ u))) u refl
 
   -- too little room
   pub too-little : unjudged (answer .refusal) ≡ false → length events / eventSize < count s → Judges s base events after (record { fits = false; refusal = 7; place = 0 })
@@ -105,5 +109,23 @@ module _ (s : List ℕ) (base : ℕ) (events after errors : List ℕ) (answer : 
     pub by-the-run : (r : Bool) → Regular (allTokens s base) → (r ≡ true) ↔ QuietAnswer answer after → Judges s base events after (record { fits = r; refusal = 0; place = 0 })
     by-the-run r g d =
         judged r false false
-        (λ t. (quiet-sound s base events cited g (answer-run (d .0 t)), room), λ o. d .1 (run-answer (sound-quiet s base events cited (o .0) (o .1))))
+        (λ t. (quiet-sound s base events cited g (answer-run (d .0 t)), room), λ o. d .1 (run-answer (sound-quiet s base events (cited .quiet) (o .0) (o .1))))
         u (le-ltb _ _ room)
+
+-- no refusal: the list is judged, and there is room
+judged-by : (answer : Answer) (not short : Bool) → unjudged (answer .refusal) ≡ not → cond not (answer .refusal) (shortOfRoom short) ≡ 0 → (not ≡ false) × (short ≡ false)
+judged-by answer true short u z = absurd (false≢true (sym (ap unjudged z) ∙ u))
+judged-by answer false true u z = absurd (omega (arith, z))
+judged-by answer false false u z = (refl, refl)
+
+pub judges-decided : (s : List ℕ) (base : ℕ) (events after : List ℕ) (v : Verdict) → FitsThenQuiet s base events → Judges s base events after v → Judged s base v
+judges-decided s base events after v t j =
+    let run = documentRun s base events [] .answer in
+    let short = ltb (length events / eventSize) (count s) in
+    record {
+      decides = λ z. let room = ltb-false _ _ (judged-by run (unjudged (run .refusal)) short refl (sym (j .refusal) ∙ z) .1) in (λ y. j .yes .0 y .0, λ o. j .yes .1 (o, room));
+      accepted = λ y.
+          let o = j .yes .0 y in
+          let q = sound-quiet s base events t (o .0) (o .1) in
+          j .refusal ∙ (λ i. cond (unjudged (q .accepted i)) (q .accepted i) (shortOfRoom (le-ltb (length events / eventSize) (count s) (o .1) i)));
+    }

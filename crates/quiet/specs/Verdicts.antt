@@ -63,6 +63,11 @@ pub record Judgement : Type 0 where
 abbrev pub DeterminedVerdict : List ℕ → ℕ → List ℕ → Type 0
 DeterminedVerdict s base events = (x y : Judgement) → Judges s base events (x .events) (x .verdict) → Judges s base events (y .events) (y .verdict) → x ≡ y
 
--- and so are two answers of `is_quiet`, or of `is_regular`: each is true exactly when a statement holds
+-- two tests that are true exactly when the statement holds are equal
 abbrev pub DeterminedTest : Type 0 → Type 0
 DeterminedTest statement = (x y : Bool) → (x ≡ true) ↔ statement → (y ≡ true) ↔ statement → x ≡ y
+
+-- where there is no refusal the answer is yes exactly when the list is sound; and where it is yes there is no refusal
+pub record Judged (s : List ℕ) (base : ℕ) (v : Verdict) : Type 0 where
+  pub decides : v .refusal ≡ 0 → (v .fits ≡ true) ↔ Sound s base
+  pub accepted : v .fits ≡ true → v .refusal ≡ 0

@@ -24,6 +24,16 @@ fn is_unjudged(refusal: u32) -> bool
     false
 }
 
+fn answered(fits: bool, refusal: u32, place: usize) -> Verdict
+    ensures { λ r. ⌜ r ≡ record { fits = fits; refusal = refusal; place = place } ⌝ }
+{
+    Verdict {
+        fits,
+        refusal,
+        place,
+    }
+}
+
 // The document entry is run with no room for errors: a list with an error does not fit. Room for as many events as there are records is
 // wanted, which is as many as a list that fits can have; where there is less, the list is not judged, and that is refusal 7.
 pub fn fits(records: &[u8], base: u32, events: &mut [u32]) -> Verdict
@@ -35,29 +45,16 @@ pub fn fits(records: &[u8], base: u32, events: &mut [u32]) -> Verdict
     let answer = parse_document(records, base, events, &mut errors);
     let refusal = answer.refusal;
     if is_unjudged(refusal) {
-        return Verdict {
-            fits: false,
-            refusal,
-            place: answer.place,
-        };
+        let place = answer.place;
+        return answered(false, refusal, place);
     }
     if events.len() / 4 < records.len() / 6 {
-        return Verdict {
-            fits: false,
-            refusal: 7,
-            place: 0,
-        };
+        return answered(false, 7, 0);
     }
-    if is_regular(records, base) {
-        return Verdict {
-            fits: is_quiet(answer, events),
-            refusal: 0,
-            place: 0,
-        };
+    let regular = is_regular(records, base);
+    if regular {
+        let quiet = is_quiet(answer, events);
+        return answered(quiet, 0, 0);
     }
-    Verdict {
-        fits: false,
-        refusal: 0,
-        place: 0,
-    }
+    answered(false, 0, 0)
 }

@@ -6,8 +6,6 @@ use Rattle.token.specs.Kinds.{kindOf}
 use Rattle.quiet.proofs.NumberLaws.{eof-number}
 use Rattle.quiet.proofs.regular.is_eof.Statement.{statement}
 use Rattle.quiet.proofs.regular.is_eof.Tie as tie
-use Rattle.quiet.proofs.regular.is_eof.Reads as reads
-use Rattle.quiet.proofs.regular.is_eof.Lts as lts
 
 returns : tie.Need-returns
 unfolding kindOf

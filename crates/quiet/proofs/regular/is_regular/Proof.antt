@@ -10,8 +10,6 @@ use Rattle.quiet.proofs.RegularLaws.{passesFrom, regular-decided, at-eo
 use borrow.Author.Needs.{needs}
 use Rattle.quiet.proofs.regular.is_regular.Statement.{statement}
 use Rattle.quiet.proofs.regular.is_regular.Tie as tie
-use Rattle.quiet.proofs.regular.is_regular.Reads as reads
-use Rattle.quiet.proofs.regular.is_regular.Lts as lts
 
 abbrev Inv-loop : tie.InvT-loop
 Inv-loop records base n behind₀ i₀ behind i = passesFrom (count records - i) records i behind ≡ passesFrom (count records) records 0 false

@@ -3,8 +3,6 @@
 use Rattle.quiet.proofs.NumberLaws.{whitespace-number}
 use Rattle.quiet.proofs.regular.is_whitespace.Statement.{statement}
 use Rattle.quiet.proofs.regular.is_whitespace.Tie as tie
-use Rattle.quiet.proofs.regular.is_whitespace.Reads as reads
-use Rattle.quiet.proofs.regular.is_whitespace.Lts as lts
 
 returns : tie.Need-returns
 returns c = whitespace-number ((c .args) .number)

@@ -8,8 +8,6 @@ use Rattle.quiet.proofs.RunLaws.{quiet-by-events, refused-loud, errors-
 use borrow.Author.Needs.{needs}
 use Rattle.quiet.proofs.run.is_quiet.Statement.{statement}
 use Rattle.quiet.proofs.run.is_quiet.Tie as tie
-use Rattle.quiet.proofs.run.is_quiet.Reads as reads
-use Rattle.quiet.proofs.run.is_quiet.Lts as lts
 
 returns : tie.Need-returns
 returns c = refused-loud ((c .before .before .args) .answer) ((c .before .before .args) .events .now) ((c .if1) .taken)

@@ -10,8 +10,6 @@ use Rattle.quiet.proofs.RunLaws.{none-empty-zero, none-empty-more}
 use borrow.Author.Needs.{needs}
 use Rattle.quiet.proofs.run.none_empty.Statement.{statement}
 use Rattle.quiet.proofs.run.none_empty.Tie as tie
-use Rattle.quiet.proofs.run.none_empty.Reads as reads
-use Rattle.quiet.proofs.run.none_empty.Lts as lts
 
 abbrev Inv-loop : tie.InvT-loop
 Inv-loop events n i₀ i = (i ≤ n) × NoneEmpty i events

@@ -11,8 +11,6 @@ use Rattle.quiet.proofs.VerdictLaws.{not-judged, too-little, irregular,
 use borrow.Author.Needs.{needs}
 use Rattle.quiet.proofs.verdict.fits.Statement.{statement}
 use Rattle.quiet.proofs.verdict.fits.Tie as tie
-use Rattle.quiet.proofs.verdict.fits.Reads as reads
-use Rattle.quiet.proofs.verdict.fits.Lts as lts
 
 slice-aggregate-quiet-exactly-when-fits-within : tie.Need-slice-aggregate-quiet-exactly-when-fits-within
 slice-aggregate-quiet-exactly-when-fits-within c = search needs
@@ -35,21 +33,27 @@ parse-document-requires c κs = search needs
 is-unjudged-requires : tie.Need-is-unjudged-requires
 is-unjudged-requires c κs = search needs
 
+answered-requires : tie.Need-answered-requires
+answered-requires c κs = search needs
+
 same-length : tie.Need-same-length
 same-length c = search needs
 
 returns : tie.Need-returns
 returns c =
-    let u : unjudged ((c .before .before .before .before .before .parse-document) .result .refusal) ≡ true = cc in
-    not-judged ((c .before .before .before .before .before .before .before .before .before .before .before .before .before .before .before .before .args) .records .now) ((c .before .before .before .before .before .before .before .before .before .before .before .before .before .before .before .before .args) .base) ((c .before .before .before .before .before .before .before .before .before .before .before .before .before .before .before .before .args) .events .now) _ _ _ ((c .before .before .before .before .before .parse-document) .ensures) (record { within = (c .before .before .before .before .before .before .before .before .before .before .before .quiet-exactly-when-fits-within) .ensures; quiet = (c .before .before .before .before .before .before .before .before .fits-then-quiet) .ensures }) u
+    let u : unjudged ((c .before .before .before .before .before .before .parse-document) .result .refusal) ≡ true = cc in
+    rw ((c .answered) .ensures) (not-judged ((c .before .before .before .before .before .before .before .before .before .before .before .before .before .before .before .before .before .args) .records .now) ((c .before .before .before .before .before .before .before .before .before .before .before .before .before .before .before .before .before .args) .base) ((c .before .before .before .before .before .before .before .before .before .before .before .before .before .before .before .before .before .args) .events .now) _ _ _ ((c .before .before .before .before .before .before .parse-document) .ensures) (record { within = (c .before .before .before .before .before .before .before .before .before .before .before .before .quiet-exactly-when-fits-within) .ensures; quiet = (c .before .before .before .before .before .before .before .before .before .fits-then-quiet) .ensures }) u)
+
+answered-requires-2 : tie.Need-answered-requires-2
+answered-requires-2 c κs = search needs
 
 same-length-2 : tie.Need-same-length-2
 same-length-2 c = search needs
 
 returns-2 : tie.Need-returns-2
 returns-2 c =
-    let u : unjudged ((c .before .before .before .before .before .before .parse-document) .result .refusal) ≡ false = cc in
-    too-little ((c .before .before .before .before .before .before .before .before .before .before .before .before .before .before .before .before .before .args) .records .now) ((c .before .before .before .before .before .before .before .before .before .before .before .before .before .before .before .before .before .args) .base) ((c .before .before .before .before .before .before .before .before .before .before .before .before .before .before .before .before .before .args) .events .now) _ _ _ ((c .before .before .before .before .before .before .parse-document) .ensures) (record { within = (c .before .before .before .before .before .before .before .before .before .before .before .before .quiet-exactly-when-fits-within) .ensures; quiet = (c .before .before .before .before .before .before .before .before .before .fits-then-quiet) .ensures }) u (omega (arith, (c .if2) .taken, ((c .before .before .before .before .before .before .parse-document) .kept .1 .1 .0)))
+    let u : unjudged ((c .before .before .before .before .before .before .before .parse-document) .result .refusal) ≡ false = cc in
+    rw ((c .answered2) .ensures) (too-little ((c .before .before .before .before .before .before .before .before .before .before .before .before .before .before .before .before .before .before .args) .records .now) ((c .before .before .before .before .before .before .before .before .before .before .before .before .before .before .before .before .before .before .args) .base) ((c .before .before .before .before .before .before .before .before .before .before .before .before .before .before .before .before .before .before .args) .events .now) _ _ _ ((c .before .before .before .before .before .before .before .parse-document) .ensures) (record { within = (c .before .before .before .before .before .before .before .before .before .before .before .before .before .quiet-exactly-when-fits-within) .ensures; quiet = (c .before .before .before .before .before .before .before .before .before .before .fits-then-quiet) .ensures }) u (omega (arith, (c .before .if2) .taken, ((c .before .before .before .before .before .before .before .parse-document) .kept .1 .1 .0))))
 
 is-regular-requires : tie.Need-is-regular-requires
 is-regular-requires c κs = search needs
@@ -57,21 +61,27 @@ is-regular-requires c κs = search needs
 is-quiet-requires : tie.Need-is-quiet-requires
 is-quiet-requires c κs = search needs
 
+answered-requires-3 : tie.Need-answered-requires-3
+answered-requires-3 c κs = search needs
+
 same-length-3 : tie.Need-same-length-3
 same-length-3 c = search needs
 
 returns-3 : tie.Need-returns-3
 returns-3 c =
-    let u : unjudged ((c .before .before .before .before .before .before .before .before .before .before .parse-document) .result .refusal) ≡ false = cc in
-    by-the-run ((c .before .before .before .before .before .before .before .before .before .before .before .before .before .before .before .before .before .before .before .before .before .args) .records .now) ((c .before .before .before .before .before .before .before .before .before .before .before .before .before .before .before .before .before .before .before .before .before .args) .base) ((c .before .before .before .before .before .before .before .before .before .before .before .before .before .before .before .before .before .before .before .before .before .args) .events .now) _ _ _ ((c .before .before .before .before .before .before .before .before .before .before .parse-document) .ensures) (record { within = (c .before .before .before .before .before .before .before .before .before .before .before .before .before .before .before .before .quiet-exactly-when-fits-within) .ensures; quiet = (c .before .before .before .before .before .before .before .before .before .before .before .before .before .fits-then-quiet) .ensures }) u (omega (arith, (c .before .before .before .before .if2) .left, ((c .before .before .before .before .before .before .before .before .before .before .parse-document) .kept .1 .1 .0))) _ ((c .before .before .before .is-regular) .ensures .0 ((c .before .before .if3) .taken)) ((c .is-quiet) .ensures)
+    let u : unjudged ((c .before .before .before .before .before .before .before .before .before .before .before .parse-document) .result .refusal) ≡ false = cc in
+    rw ((c .answered3) .ensures) (by-the-run ((c .before .before .before .before .before .before .before .before .before .before .before .before .before .before .before .before .before .before .before .before .before .before .args) .records .now) ((c .before .before .before .before .before .before .before .before .before .before .before .before .before .before .before .before .before .before .before .before .before .before .args) .base) ((c .before .before .before .before .before .before .before .before .before .before .before .before .before .before .before .before .before .before .before .before .before .before .args) .events .now) _ _ _ ((c .before .before .before .before .before .before .before .before .before .before .before .parse-document) .ensures) (record { within = (c .before .before .before .before .before .before .before .before .before .before .before .before .before .before .before .before .before .quiet-exactly-when-fits-within) .ensures; quiet = (c .before .before .before .before .before .before .before .before .before .before .before .before .before .before .fits-then-quiet) .ensures }) u (omega (arith, (c .before .before .before .before .before .if2) .left, ((c .before .before .before .before .before .before .before .before .before .before .before .parse-document) .kept .1 .1 .0))) _ ((c .before .before .before .before .is-regular) .ensures .0 ((c .before .before .before .if3) .taken)) ((c .before .is-quiet) .ensures))
+
+answered-requires-4 : tie.Need-answered-requires-4
+answered-requires-4 c κs = search needs
 
 same-length-4 : tie.Need-same-length-4
 same-length-4 c = search needs
 
 returns-4 : tie.Need-returns-4
 returns-4 c =
-    let u : unjudged ((c .before .before .before .before .before .before .before .before .parse-document) .result .refusal) ≡ false = cc in
-    irregular ((c .before .before .before .before .before .before .before .before .before .before .before .before .before .before .before .before .before .before .before .args) .records .now) ((c .before .before .before .before .before .before .before .before .before .before .before .before .before .before .before .before .before .before .before .args) .base) ((c .before .before .before .before .before .before .before .before .before .before .before .before .before .before .before .before .before .before .before .args) .events .now) _ _ _ ((c .before .before .before .before .before .before .before .before .parse-document) .ensures) (record { within = (c .before .before .before .before .before .before .before .before .before .before .before .before .before .before .quiet-exactly-when-fits-within) .ensures; quiet = (c .before .before .before .before .before .before .before .before .before .before .before .fits-then-quiet) .ensures }) u (omega (arith, (c .before .before .if2) .left, ((c .before .before .before .before .before .before .before .before .parse-document) .kept .1 .1 .0))) (λ g. false≢true (sym ((c .if3) .left) ∙ (c .before .is-regular) .ensures .1 g))
+    let u : unjudged ((c .before .before .before .before .before .before .before .before .before .parse-document) .result .refusal) ≡ false = cc in
+    rw ((c .answered4) .ensures) (irregular ((c .before .before .before .before .before .before .before .before .before .before .before .before .before .before .before .before .before .before .before .before .args) .records .now) ((c .before .before .before .before .before .before .before .before .before .before .before .before .before .before .before .before .before .before .before .before .args) .base) ((c .before .before .before .before .before .before .before .before .before .before .before .before .before .before .before .before .before .before .before .before .args) .events .now) _ _ _ ((c .before .before .before .before .before .before .before .before .before .parse-document) .ensures) (record { within = (c .before .before .before .before .before .before .before .before .before .before .before .before .before .before .before .quiet-exactly-when-fits-within) .ensures; quiet = (c .before .before .before .before .before .before .before .before .before .before .before .before .fits-then-quiet) .ensures }) u (omega (arith, (c .before .before .before .if2) .left, ((c .before .before .before .before .before .before .before .before .before .parse-document) .kept .1 .1 .0))) (λ g. false≢true (sym ((c .before .if3) .left) ∙ (c .before .before .is-regular) .ensures .1 g)))
 
 pub fits-spec : {M : Type 1} → statement M
 fits-spec =
@@ -84,13 +94,17 @@ fits-spec =
     slice-aggregate-parse-document
     parse-document-requires
     is-unjudged-requires
+    answered-requires
     same-length
     returns
+    answered-requires-2
     same-length-2
     returns-2
     is-regular-requires
     is-quiet-requires
+    answered-requires-3
     same-length-3
     returns-3
+    answered-requires-4
     same-length-4
     returns-4)

@@ -4,8 +4,6 @@ use mathlib.Core.Path.{sym}
 use borrow.Author.Tests.{lt-ltb, le-ltb}
 use Rattle.quiet.proofs.verdict.is_unjudged.Statement.{statement}
 use Rattle.quiet.proofs.verdict.is_unjudged.Tie as tie
-use Rattle.quiet.proofs.verdict.is_unjudged.Reads as reads
-use Rattle.quiet.proofs.verdict.is_unjudged.Lts as lts
 
 returns : tie.Need-returns
 returns c = simp (lt-ltb _ _ ((c .if1) .taken))
