@@ -1,14 +1,11 @@
 /* The checker of ./differ: reads frames from its input (src/frame.rs says what they are), calls the library on each list and text, and
  * compares the answer and every word of the buffers with what the oracle gave: document.rs and lexer/mod.rs compiled unchanged over
- * stand-ins for the files that are not here. This half has the lists; checker_texts.c has the texts, and whether a list fits. Some
+ * stand-ins for the files that are not here. This file has the lists; checker_texts.h has the texts, and whether a list fits. Some
  * lists go to the document entry a second time, as token structs. Stops at the first difference and prints it. Ends with 0 if nothing
  * differs, 1 if something does, 2 if the frames are not whole. */
-#include <unistd.h>
-
 #include "checker.h"
+#include "checker_texts.h"
 
-/* Bytes that are read at a time. */
-#define CHUNK (1 << 20)
 /* One list in so many is compared as structs too, and each long one: the call clears 393,216 bytes first, which takes an emulator
  * about a millisecond. It is odd, so that lists with ample room and with little come in turn. */
 #define STRUCTS_EACH 499
@@ -25,77 +22,8 @@ typedef struct deckmarten_answer parse(const uint8_t *, size_t, uint32_t, uint32
 static parse *const entries[4] = {deckmarten_parse_document, deckmarten_parse_key, deckmarten_parse_simple_key, deckmarten_parse_value};
 static const char *const names[4] = {"document", "key", "simple_key", "value"};
 
-static struct room input, event_room, error_room, token_room;
-static size_t start, end; /* of what was read into `input` and not yet taken */
+static struct room token_room;
 static uint64_t documents, as_structs, texts, verdicts;
-uint64_t cases, refused[REFUSALS];
-uint32_t seen_kinds, seen_events, seen_messages;
-
-_Noreturn void broken(const char *what) {
-    fprintf(stderr, "checker: %s\n", what);
-    exit(2);
-}
-
-void grow(struct room *room, size_t size) {
-    if (room->size >= size) return;
-    room->size = 2 * size;
-    room->at = realloc(room->at, room->size);
-    if (!room->at) broken("no memory");
-}
-
-const void *take(size_t size) {
-    if (end - start < size) {
-        grow(&input, size > CHUNK ? size : CHUNK);
-        memmove(input.at, input.at + start, end - start);
-        end -= start;
-        start = 0;
-    }
-    while (end - start < size) {
-        ssize_t got = read(0, input.at + end, input.size - end);
-        if (got <= 0) broken("the frames end too early");
-        end += (size_t)got;
-    }
-    start += size;
-    return input.at + start - size;
-}
-
-uint32_t word(void) { return *(const uint32_t *)take(4); }
-
-uint32_t *fresh(struct room *room, size_t words) {
-    grow(room, 4 * (words + 2 * BORDER));
-    uint32_t *at = (uint32_t *)room->at;
-    for (size_t i = 0; i < words + 2 * BORDER; i++) at[i] = UNTOUCHED;
-    return at + BORDER;
-}
-
-bool holds(const uint32_t *buffer, size_t words, const uint32_t *expected, size_t written) {
-    if (memcmp(buffer, expected, 4 * written)) return false;
-    for (size_t i = written; i < words + BORDER; i++)
-        if (buffer[i] != UNTOUCHED) return false;
-    for (size_t i = 1; i <= BORDER; i++)
-        if (*(buffer - i) != UNTOUCHED) return false;
-    return true;
-}
-
-void print_words(const uint32_t *words, size_t count) {
-    printf(" |");
-    for (size_t i = 0; i < count; i++) {
-        if (words[i] == UNTOUCHED)
-            printf(" -");
-        else
-            printf(" %" PRIu32, words[i]);
-    }
-}
-
-void print_hex(const uint8_t *bytes, size_t count) {
-    printf("x:");
-    for (size_t i = 0; i < count; i++) printf("%02x", bytes[i]);
-}
-
-void see(const uint32_t *events, size_t event_words, const uint32_t *errors, size_t error_words) {
-    for (size_t i = 0; i < event_words; i += DECKMARTEN_SIZE_EVENT) seen_events |= 1u << events[i] % 32;
-    for (size_t i = 0; i < error_words; i += DECKMARTEN_SIZE_ERROR) seen_messages |= 1u << errors[i] % 32;
-}
 
 /* The token structs of so many records. What lies between them is not 0. */
 static const struct deckmarten_token *structs_of(const uint8_t *bytes, size_t count) {

@@ -28,6 +28,8 @@ pub enum Wrong {
     Records,
     /// What is not UTF-8 begins one byte later.
     Places,
+    /// The last record of a text is not written.
+    Untouched,
     /// A list with `{` in it fits if it does not, and the other way round.
     Fits,
     /// The same of a text.
@@ -35,10 +37,11 @@ pub enum Wrong {
 }
 
 /// All of them, with their names.
-pub const WRONGS: [(&str, Wrong); 5] = [
+pub const WRONGS: [(&str, Wrong); 6] = [
     ("reports", Wrong::Reports),
     ("records", Wrong::Records),
     ("places", Wrong::Places),
+    ("untouched", Wrong::Untouched),
     ("fits", Wrong::Fits),
     ("text_fits", Wrong::TextFits),
 ];
@@ -121,7 +124,8 @@ impl<W: Write> Feed<W> {
         if let Some(wrong) = self.wrong {
             spoil(&mut text, wrong);
         }
-        frame::push_text(&mut self.out, bytes, &text, &rooms);
+        let unwritten = 6 * usize::from(self.wrong == Some(Wrong::Untouched));
+        frame::push_text(&mut self.out, bytes, &text, &rooms, unwritten);
         self.added(rooms.len() as u64)
     }
 

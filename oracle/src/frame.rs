@@ -50,8 +50,9 @@ pub fn push_case(out: &mut Vec<u8>, case: &Case, answer: &Answer, events: &[u32]
     }
 }
 
-/// Appends a text with what it gives in each of these rooms.
-pub fn push_text(out: &mut Vec<u8>, bytes: &[u8], text: &Text, rooms: &[Rooms]) {
+/// Appends a text with what it gives in each of these rooms. Of its records so many bytes
+/// at the end are said not to be written, which is right only if they are 0.
+pub fn push_text(out: &mut Vec<u8>, bytes: &[u8], text: &Text, rooms: &[Rooms], unwritten: usize) {
     let needs = text.needs();
     push(out, 3);
     push(out, bytes.len());
@@ -73,17 +74,18 @@ pub fn push_text(out: &mut Vec<u8>, bytes: &[u8], text: &Text, rooms: &[Rooms]) 
     }
     for room in rooms {
         push_rooms(out, room);
-        push_in_room(out, text, &needs, room);
+        push_in_room(
+            out,
+            text,
+            needs.record_bytes.saturating_sub(unwritten),
+            room,
+        );
     }
 }
 
-fn push_in_room(out: &mut Vec<u8>, text: &Text, needs: &Rooms, room: &Rooms) {
+fn push_in_room(out: &mut Vec<u8>, text: &Text, written: usize, room: &Rooms) {
     let lexed = text.lexed(room.record_bytes);
-    let record_bytes = if lexed.refusal == 0 {
-        needs.record_bytes
-    } else {
-        0
-    };
+    let record_bytes = if lexed.refusal == 0 { written } else { 0 };
     push_lexed(out, &lexed);
     push(out, record_bytes);
     let parsed = text.parsed(*room);

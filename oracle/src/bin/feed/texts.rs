@@ -31,7 +31,7 @@ const ALL: [&str; 17] = [
     "a", ".", "=", ",", "[", "]", "{", "}", " ", "\t", "#", "\n", "\r", "'", "\"", "\\", "é",
 ];
 /// Controls, blanks of other scripts, and byte order marks, among some others.
-const ODD: [&str; 15] = [
+const ODD: [&str; 16] = [
     "a",
     "=",
     "#",
@@ -40,6 +40,7 @@ const ODD: [&str; 15] = [
     "\0",
     "\u{7f}",
     "\u{b}",
+    "\u{c}",
     "\u{a0}",
     "\u{feff}",
     "\u{2028}",

@@ -1,6 +1,9 @@
-/* The half of ./differ's checker that has texts: lexing, the joined entry and the verdict on a text, in several rooms; and whether a list
+/* The part of ./differ's checker that has texts: lexing, the joined entry and the verdict on a text, in several rooms; and whether a list
  * of records fits. What must come is in the frames, by lexer/mod.rs and document.rs compiled unchanged over stand-ins for the files
  * that are not here, and by a recogniser of the token grammar that is written apart from the parser. */
+#ifndef CHECKER_TEXTS_H
+#define CHECKER_TEXTS_H
+
 #include "checker.h"
 
 struct text_frame {
@@ -43,7 +46,7 @@ struct text {
     const uint32_t *events, *errors;
 };
 
-static struct room record_room, event_room, error_room;
+static struct room record_room;
 
 /* The record buffer, which must hold so many of the expected bytes, and otherwise what it held before. */
 static uint8_t *fresh_bytes(size_t bytes) {
@@ -147,7 +150,7 @@ static void check_text_fits(const struct text *t, const struct in_room *want) {
 }
 
 /* A text in all its rooms; how many they are. */
-uint64_t check_text(void) {
+static uint64_t check_text(void) {
     struct text t;
     memcpy(&t.frame, take(sizeof t.frame), sizeof t.frame);
     size_t text_bytes = ((size_t)t.frame.bytes + 3) / 4 * 4, record_bytes = ((size_t)t.frame.record_bytes + 3) / 4 * 4;
@@ -170,7 +173,7 @@ uint64_t check_text(void) {
 }
 
 /* Whether a list fits, is regular, and gives a quiet run in the room that there is for events, with none for errors. */
-void check_fits(void) {
+static void check_fits(void) {
     struct fits_frame f;
     memcpy(&f, take(sizeof f), sizeof f);
     const uint8_t *bytes = take(((size_t)f.bytes + 3) / 4 * 4);
@@ -190,3 +193,5 @@ void check_fits(void) {
     printf("\nlibrary: quiet %d regular %d\noracle: quiet %u regular %u", quiet, regular, f.quiet, f.regular != 0);
     finish_difference();
 }
+
+#endif
