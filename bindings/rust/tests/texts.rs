@@ -98,3 +98,14 @@ fn five_of_them_are_quiet() {
     let fits = |text: &Text| text.text.as_ref().is_some_and(|text| text_fits(text.as_bytes()).is_yes());
     assert_eq!(texts().iter().filter(|text| fits(text)).map(|text| text.number).collect::<Vec<_>>(), quiet);
 }
+
+#[test]
+fn the_two_texts_of_the_readme_have_their_records() {
+    for (name, fits) in [("job", true), ("ledger", false)] {
+        let text = fs::read(format!("../../examples/{name}.toml")).unwrap();
+        let records = fs::read(format!("../../examples/{name}.bin")).unwrap();
+        assert_eq!(lex(&text).unwrap().records.as_bytes(), records, "{name}");
+        assert_eq!(text_fits(&text).is_yes(), fits, "{name}");
+        assert_eq!(listing(&Room::new().parse_text(&text)), fs::read_to_string(format!("../../examples/{name}.txt")).unwrap());
+    }
+}
