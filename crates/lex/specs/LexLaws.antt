@@ -1,6 +1,6 @@
 -- Laws of `lex`: the loops over the tokens, and what each way out leaves. Proved; nothing here needs to be believed.
 use mathlib.Core.Path.{_≡_, refl, ap, sym, _∙_}
-use mathlib.Core.Bool.{Bool, true, false, cond}
+use mathlib.Core.Bool.{Bool, true, false, cond, false≢true}
 use mathlib.Core.List.{List, [], _∷_, _++_}
 use Prim.Native.Nat.{ℕ, zero, suc, _+_, _-_, _*_, _/_, _<_, _≤_}
 use native.Mathlib.Omega.{arith}
@@ -15,16 +15,12 @@ use Rattle.token.specs.Writing.{recordOf, recordsOf, putAt}
 use Rattle.token.specs.WritingLaws.{put-length, writtenFrom, written-record, written-none, records-length}
 use Rattle.utf8.specs.Utf8.{validUpTo}
 use Rattle.scan.specs.declared.lexer.Found.{Found}
-use Rattle.scan.specs.Lexer.{lexer, tokensOf, baseOf}
+use Rattle.scan.specs.Lexer.{tokensFrom, tokensOf, baseOf}
 use Rattle.scan.specs.Finding.{IsToken}
 use Rattle.scan.specs.LexerLaws.{lexer-on, lexer-end, lexer-some}
 use Rattle.lex.specs.declared.Lexed.{Lexed}
 use Rattle.lex.specs.Refusals.{textTooLong, notUtf8, noRoomForTokens}
 use Rattle.lex.specs.Lexed.{LexOutcome, refused, lexed, lexOutcome}
-
--- the tokens from a place on
-abbrev pub tokensFrom : List ℕ → ℕ → List Tok
-tokensFrom s at = lexer 0 at (drop at s)
 
 -- a loop that counts: n tokens, and those still to come
 pub record Counted (s : List ℕ) (at₀ at n : ℕ) : Type 0 where
@@ -99,6 +95,43 @@ module _ {s : List ℕ} {at₀ at n : ℕ} {out₀ out : List ℕ} (x : Writes s
         ap length e ∙ put-length out n 0 (numberOf Eof) here-room ∙ x .keeps,
       )
 
+-- a loop that writes, or only counts
+abbrev pub Wrote : Bool → List ℕ → ℕ → List ℕ → ℕ → ℕ → List ℕ → Type 0
+Wrote true s at₀ out₀ at n out = Writes s at₀ out₀ at n out
+Wrote false s at₀ out₀ at n out = out ≡ out₀
+
+pub record Passing (writing : Bool) (s : List ℕ) (at₀ : ℕ) (out₀ : List ℕ) (at n : ℕ) (out : List ℕ) : Type 0 where
+  pub counted : Counted s at₀ at n
+  pub wrote : Wrote writing s at₀ out₀ at n out
+
+pub passing-begun : (writing : Bool) (s : List ℕ) (at : ℕ) (out : List ℕ) → at ≤ length s → (writing ≡ true → 6 * length (tokensFrom s at) ≤ length out) → Passing writing s at out at 0 out
+passing-begun true s at out h r = record { counted = counted-begun s at h; wrote = writes-begun s at out h (r refl) }
+passing-begun false s at out h r = record { counted = counted-begun s at h; wrote = refl }
+
+module _ {s : List ℕ} {at₀ at n : ℕ} {out₀ out : List ℕ} where
+  -- there is room for a token still to come
+  pub passing-room : (writing : Bool) → Passing writing s at₀ out₀ at n out → writing ≡ true → 6 * n + 6 ≤ length out
+  passing-room true x e = counted-room (x .counted) (length out) (x .wrote .room)
+  passing-room false x e = absurd (false≢true e)
+
+  pub passing-on : (writing : Bool) → Passing writing s at₀ out₀ at n out → at < length s → (f : Found) → IsToken s at f → (out′ : List ℕ) → out′ ≡ cond writing (putAt out n (f .end - at) (numberOf (f .kind))) out → Passing writing s at₀ out₀ (f .end) (n + 1) out′
+  passing-on true x h f t out′ e = record { counted = counted-on (x .counted) h f t; wrote = writes-on (x .wrote) h f t out′ e }
+  passing-on false x h f t out′ e = record { counted = counted-on (x .counted) h f t; wrote = e ∙ x .wrote }
+
+  pub passing-end : (writing : Bool) → Passing writing s at₀ out₀ at n out → length s ≤ at → (out′ : List ℕ) → out′ ≡ cond writing (putAt out n 0 (numberOf Eof)) out
+      → (out′ ≡ cond writing (recordsOf (tokensFrom s at₀) ++ drop (6 * length (tokensFrom s at₀)) out₀) out₀) × (length out′ ≡ length out₀)
+  passing-end true x h out′ e = writes-end (x .wrote) h out′ e
+  passing-end false x h out′ e = (e ∙ x .wrote, ap length (e ∙ x .wrote))
+
+  pub passing-keeps : (writing : Bool) → Passing writing s at₀ out₀ at n out → length out ≡ length out₀
+  passing-keeps true x = x .wrote .keeps
+  passing-keeps false x = ap length (x .wrote)
+
+-- one record keeps the length
+pub token-keeps : (writing : Bool) (out : List ℕ) (n size kind : ℕ) → (writing ≡ true → 6 * n + 6 ≤ length out) → length (cond writing (putAt out n size kind) out) ≡ length out
+token-keeps true out n size kind h = put-length out n size kind (h refl)
+token-keeps false out n size kind h = refl
+
 -- how many there are, if that is more than the room
 module _ (room total n : ℕ) (e : n ≡ total) where
   pub beyond-many : room < n → n ≡ cond (ltb room total) total 0
@@ -106,10 +139,6 @@ module _ (room total n : ℕ) (e : n ≡ total) where
 
 pub beyond-few : (room total : ℕ) → total ≤ room → 0 ≡ cond (ltb room total) total 0
 beyond-few room total h = sym (rw (le-ltb room total h))
-
-beyond-is : (room total n : ℕ) → 0 < total → n ≡ cond (ltb room total) total 0 → (t : Bool) → ltb room total ≡ t → cond t ((room < total) × (n ≡ total)) ((total ≤ room) × (n ≡ 0))
-beyond-is room total n h e true q = (ltb-true room total q, e ∙ rw q)
-beyond-is room total n h e false q = (ltb-false room total q, e ∙ rw q)
 
 -- the ways out
 module _ (s l : List ℕ) where

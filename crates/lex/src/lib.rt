@@ -13,13 +13,14 @@ use token::kind::number_of;
 use token::writing::put_record;
 use utf8::valid_up_to;
 ghost use mathlib.Core.Path.{_≡_};
-ghost use mathlib.Core.Bool.{cond};
+ghost use mathlib.Core.Bool.{cond, true};
 ghost use mathlib.Core.List.{_++_};
-ghost use Prim.Native.Nat.{_+_, _*_, _≤_};
+ghost use Prim.Native.Nat.{_+_, _*_, _/_, _≤_};
 ghost use lib.ListN.{length, drop};
 ghost use lib.Dec.{ltb};
-ghost use Rattle.token.specs.Writing.{recordsOf};
-ghost use Rattle.scan.specs.Lexer.{lexer, baseOf};
+ghost use Rattle.token.specs.Kinds.{numberOf};
+ghost use Rattle.token.specs.Writing.{recordsOf, putAt};
+ghost use Rattle.scan.specs.Lexer.{tokensFrom, baseOf};
 ghost use Rattle.lex.specs.Lexed.{LexOutcome, lexOutcome};
 
 // A refusal's number or 0, and its place; where the tokens start; and how many records they are, or would be.
@@ -44,41 +45,21 @@ fn base_of(text: &[u8]) -> usize
     0
 }
 
-// How many tokens there are from `base` on.
-fn count_tokens(text: &[u8], base: usize) -> usize
-    requires { ⌜ base ≤ length (now text) ⌝ }
-    ensures { λ r. ⌜ r ≡ length (lexer 0 base (drop base (now (text .entry)))) ⌝ }
+// Record n, where tokens are written.
+fn put_token(records: &mut [u8], writing: bool, n: usize, size: usize, kind: Kind)
+    requires { ⌜ (writing ≡ true → 6 * n + 6 ≤ length (now records)) ⌝ }
+    ensures { λ _. ⌜ now (records .exit) ≡ cond writing (putAt (now (records .entry)) n size (numberOf kind)) (now (records .entry)) ⌝ }
 {
-    let mut at = base;
-    let mut n = 0;
-    while at < text.len() {
-        let found = process_token(text, at);
-        at = found.end;
-        n += 1;
+    if writing {
+        put_record(records, n, size, number_of(kind));
     }
-    n + 1
 }
 
-// How many tokens there are from `base` on, if that is more than `room`; else 0. There are at most one more than bytes.
-fn beyond_room(text: &[u8], base: usize, room: usize) -> usize
+// The tokens from `base` on: how many they are. Their records are written, or only counted.
+fn pass(text: &[u8], base: usize, records: &mut [u8], writing: bool) -> usize
     requires { ⌜ base ≤ length (now text) ⌝ }
-    ensures { λ r. ⌜ r ≡ cond (ltb room (length (lexer 0 base (drop base (now (text .entry)))))) (length (lexer 0 base (drop base (now (text .entry))))) 0 ⌝ }
-{
-    if text.len() < room {
-        return 0;
-    }
-    let n = count_tokens(text, base);
-    if room < n {
-        return n;
-    }
-    0
-}
-
-// The tokens from `base` on, as records: how many they are.
-fn put_tokens(text: &[u8], base: usize, records: &mut [u8]) -> usize
-    requires { ⌜ base ≤ length (now text) ⌝ }
-    requires { ⌜ 6 * length (lexer 0 base (drop base (now text))) ≤ length (now records) ⌝ }
-    ensures { λ r. ⌜ (r ≡ length (lexer 0 base (drop base (now (text .entry))))) × (now (records .exit) ≡ recordsOf (lexer 0 base (drop base (now (text .entry)))) ++ drop (6 * length (lexer 0 base (drop base (now (text .entry))))) (now (records .entry))) ⌝ }
+    requires { ⌜ (writing ≡ true → 6 * length (tokensFrom (now text) base) ≤ length (now records)) ⌝ }
+    ensures { λ r. ⌜ (r ≡ length (tokensFrom (now (text .entry)) base)) × (now (records .exit) ≡ cond writing (recordsOf (tokensFrom (now (text .entry)) base) ++ drop (6 * length (tokensFrom (now (text .entry)) base)) (now (records .entry))) (now (records .entry))) ⌝ }
 {
     let mut at = base;
     let mut n = 0;
@@ -86,12 +67,28 @@ fn put_tokens(text: &[u8], base: usize, records: &mut [u8]) -> usize
         let found = process_token(text, at);
         let end = found.end;
         let kind = found.kind;
-        put_record(records, n, end - at, number_of(kind));
+        put_token(records, writing, n, end - at, kind);
         at = end;
         n += 1;
     }
-    put_record(records, n, 0, number_of(Kind::Eof));
+    put_token(records, writing, n, 0, Kind::Eof);
     n + 1
+}
+
+// How many tokens there are from `base` on, if that is more than there is room for; else 0. There are at most one more than bytes.
+fn beyond_room(text: &[u8], base: usize, records: &mut [u8]) -> usize
+    requires { ⌜ base ≤ length (now text) ⌝ }
+    ensures { λ r. ⌜ (r ≡ cond (ltb (length (now (records .entry)) / 6) (length (tokensFrom (now (text .entry)) base))) (length (tokensFrom (now (text .entry)) base)) 0) × (now (records .exit) ≡ now (records .entry)) ⌝ }
+{
+    let room = records.len() / 6;
+    if text.len() < room {
+        return 0;
+    }
+    let n = pass(text, base, records, false);
+    if room < n {
+        return n;
+    }
+    0
 }
 
 fn refuse(refusal: u32, place: usize, records: usize) -> Lexed
@@ -117,11 +114,11 @@ pub fn lex(text: &[u8], records: &mut [u8]) -> Lexed
         return refuse(NOT_UTF8, valid, 0);
     }
     let base = base_of(text);
-    let beyond = beyond_room(text, base, records.len() / 6);
+    let beyond = beyond_room(text, base, records);
     if 0 < beyond {
         return refuse(NO_ROOM_FOR_TOKENS, 0, beyond);
     }
-    let n = put_tokens(text, base, records);
+    let n = pass(text, base, records, true);
     Lexed {
         refusal: 0,
         place: 0,

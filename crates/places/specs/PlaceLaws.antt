@@ -8,7 +8,7 @@ use native.Mathlib.Numerals.{add-one}
 use lib.ListN.{length, drop, getD, length-drop, drop-of-length-le}
 use lib.Seq.{drop-cons, drop-drop}
 use lib.Dec.{eqb}
-use borrow.Author.Tests.{ne-eqb}
+use borrow.Author.Tests.{eq-eqb, ne-eqb, eqb-true}
 use Rattle.places.specs.Places.{Scanned, peeks, allOf, Passed}
 
 -- the byte at a place, and those behind it
@@ -106,28 +106,40 @@ module _ (set : ℕ → Bool) where
       by-test true e r f = let z = takes b bs e in let y = f r in omega (arith, z, y)
       by-test false e r f = absurd (false≢true r)
 
--- a loop that counts the bytes outside the set among sixteen: `hits` of the first k
-pub record Tallied (set : ℕ → Bool) (s : List ℕ) (at hits k : ℕ) : Type 0 where
+-- a loop that counts the bytes of the set among sixteen: so many of the first k
+pub record Tallied (set : ℕ → Bool) (s : List ℕ) (at count k : ℕ) : Type 0 where
   pub most : k ≤ 16
-  pub few : hits ≤ k
-  pub same : cond (eqb hits 0) (allOf set (16 - k) (drop (at + k) s)) false ≡ allOf set 16 (drop at s)
+  pub few : count ≤ k
+  pub same : cond (eqb count k) (allOf set (16 - k) (drop (at + k) s)) false ≡ allOf set 16 (drop at s)
 
-pub hit-small : (set : ℕ → Bool) (b : ℕ) → cond (set b) 0 1 ≤ 1
-hit-small set b = by-test (set b)
+pub one-most : (set : ℕ → Bool) (b : ℕ) → cond (set b) 1 0 ≤ 1
+one-most set b = by-test (set b)
   where
-    by-test : (t : Bool) → cond t 0 1 ≤ 1
+    by-test : (t : Bool) → cond t 1 0 ≤ 1
     by-test true = omega arith
     by-test false = omega arith
 
 pub tally-begun : (set : ℕ → Bool) (s : List ℕ) (at : ℕ) → Tallied set s at 0 0
 tally-begun set s at = let e : at + 0 ≡ at = omega arith in record { most = omega arith; few = omega arith; same = rw e }
 
-module _ {set : ℕ → Bool} {s : List ℕ} {at hits k : ℕ} (x : Tallied set s at hits k) where
-  pub tally-on : k < 16 → at + k < length s → (n : ℕ) → n ≡ cond (set (getD s (at + k) 0)) 0 1 → Tallied set s at (hits + n) (k + 1)
+both-more : (m n : ℕ) (t : Bool) → eqb m n ≡ t → eqb (m + 1) (n + 1) ≡ t
+both-more m n true e = eq-eqb (m + 1) (n + 1) (let z = eqb-true m n e in omega (arith, z))
+both-more m n false e = ne-eqb (m + 1) (n + 1) (λ y. false≢true (sym e ∙ eq-eqb m n (omega (arith, y))))
+
+cond-false : (t : Bool) → cond t false false ≡ false
+cond-false true = refl
+cond-false false = refl
+
+cond-self : (t : Bool) → t ≡ cond t true false
+cond-self true = refl
+cond-self false = refl
+
+module _ {set : ℕ → Bool} {s : List ℕ} {at count k : ℕ} (x : Tallied set s at count k) where
+  pub tally-on : k < 16 → at + k < length s → (n : ℕ) → n ≡ cond (set (getD s (at + k) 0)) 1 0 → Tallied set s at (count + n) (k + 1)
   tally-on l h n e =
       record {
         most = omega (arith, l);
-        few = omega (arith, x .few, e, hit-small set (getD s (at + k) 0));
+        few = omega (arith, x .few, e, one-most set (getD s (at + k) 0));
         same = by-test (set (getD s (at + k) 0)) refl e;
       }
     where
@@ -140,25 +152,21 @@ module _ {set : ℕ → Bool} {s : List ℕ} {at hits k : ℕ} (x : Tallied set 
           ∙ all-first set (16 - (k + 1)) (getD s (at + k) 0) (drop (at + k + 1) s)
           ∙ ap (λ (m : ℕ). cond (set (getD s (at + k) 0)) (allOf set (16 - (k + 1)) (drop m s)) false) r
 
-      cond-false : (t : Bool) → cond t false false ≡ false
-      cond-false true = refl
-      cond-false false = refl
-
-      by-test : (t : Bool) → set (getD s (at + k) 0) ≡ t → n ≡ cond t 0 1 → cond (eqb (hits + n) 0) (allOf set (16 - (k + 1)) (drop (at + (k + 1)) s)) false ≡ allOf set 16 (drop at s)
+      by-test : (t : Bool) → set (getD s (at + k) 0) ≡ t → n ≡ cond t 1 0 → cond (eqb (count + n) (k + 1)) (allOf set (16 - (k + 1)) (drop (at + (k + 1)) s)) false ≡ allOf set 16 (drop at s)
       by-test true p q =
-          let r : hits + n ≡ hits = omega (arith, q) in
-          rw r (sym (ap (λ (t : Bool). cond (eqb hits 0) t false) (first ∙ rw p)) ∙ x .same)
+          let r : count + n ≡ count + 1 = omega (arith, q) in
+          rw (r, both-more count k (eqb count k) refl) (sym (ap (λ (t : Bool). cond (eqb count k) t false) (first ∙ rw p)) ∙ x .same)
       by-test false p q =
-          rw (ne-eqb (hits + n) 0 (λ y. omega (arith, y, q))) (sym (cond-false (eqb hits 0)) ∙ sym (ap (λ (t : Bool). cond (eqb hits 0) t false) (first ∙ rw p)) ∙ x .same)
+          rw (ne-eqb (count + n) (k + 1) (λ y. omega (arith, y, q, x .few))) (sym (cond-false (eqb count k)) ∙ sym (ap (λ (t : Bool). cond (eqb count k) t false) (first ∙ rw p)) ∙ x .same)
 
-  pub tally-end : 16 ≤ k → eqb hits 0 ≡ allOf set 16 (drop at s)
+  pub tally-end : 16 ≤ k → eqb count 16 ≡ allOf set 16 (drop at s)
   tally-end h =
       let e : 16 - k ≡ 0 = omega (arith, h) in
-      cond-self (eqb hits 0) ∙ ap (λ (t : Bool). cond (eqb hits 0) t false) (sym (ap (λ (m : ℕ). allOf set m (drop (at + k) s)) e ∙ all-none set (drop (at + k) s))) ∙ x .same
-    where
-      cond-self : (t : Bool) → t ≡ cond t true false
-      cond-self true = refl
-      cond-self false = refl
+      let z : 16 ≡ k = omega (arith, h, x .most) in
+      ap (eqb count) z
+      ∙ cond-self (eqb count k)
+      ∙ ap (λ (t : Bool). cond (eqb count k) t false) (sym (ap (λ (m : ℕ). allOf set m (drop (at + k) s)) e ∙ all-none set (drop (at + k) s)))
+      ∙ x .same
 
 -- bytes that were passed
 module _ {set : ℕ → Bool} {s : List ℕ} where

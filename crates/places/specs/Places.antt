@@ -31,9 +31,10 @@ allOf set zero bs = true
 allOf set (suc n) [] = true
 allOf set (suc n) (b ∷ bs) = cond (set b) (allOf set n bs) false
 
--- the bytes that are none of these three
-abbrev pub noneOf : ℕ → ℕ → ℕ → ℕ → Bool
-noneOf x y z b = cond (eqb b x) false (cond (eqb b y) false (cond (eqb b z) false true))
+-- the bytes that are none of these
+abbrev pub noneOf : List ℕ → ℕ → Bool
+noneOf [] b = true
+noneOf (x ∷ xs) b = cond (eqb b x) false (noneOf xs b)
 
 -- from `at` to `end` all bytes are of the set
 pub record Passed (set : ℕ → Bool) (text : List ℕ) (at end : ℕ) : Type 0 where

@@ -184,6 +184,10 @@ lexer inside p [] = tok Eof p p ∷ []
 lexer (suc inside) p (b ∷ bs) = lexer inside p bs
 lexer zero p (b ∷ bs) = tok (pieceOf b bs .kind) p (p + suc (pieceOf b bs .more)) ∷ lexer (pieceOf b bs .more) (p + suc (pieceOf b bs .more)) bs
 
+-- the tokens of a text from a place on
+abbrev pub tokensFrom : List ℕ → ℕ → List Tok
+tokensFrom text at = lexer 0 at (drop at text)
+
 -- BOM
 abbrev pub byteOrderMark : List ℕ
 byteOrderMark = 239 ∷ 187 ∷ 191 ∷ []
@@ -194,4 +198,4 @@ baseOf text = cond (startsWith byteOrderMark text) 3 0
 
 -- the tokens of a text
 unfoldable pub tokensOf : List ℕ → List Tok
-tokensOf text = lexer 0 (baseOf text) (drop (baseOf text) text)
+tokensOf text = tokensFrom text (baseOf text)

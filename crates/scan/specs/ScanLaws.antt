@@ -9,6 +9,7 @@ use lib.Seq.{drop-drop}
 use lib.Dec.{eqb}
 use borrow.Author.Tests.{eqb-true, ne-eqb}
 use Rattle.places.specs.Places.{isByte, peeks, startsWith, noneOf}
+use Rattle.places.specs.Plain.{inComment, inLiteral, inMlLiteral, inMlBasic}
 use Rattle.places.specs.PlaceLaws.{here, peeks-within, dropped, dropped-two, dropped-three}
 use Rattle.scan.specs.Bytes.{lineFeed, carriageReturn, quotationMark, apostrophe, backslash}
 use Rattle.scan.specs.Lexer.{until, endsComment, threeOf, upToTwo, escapable, takesNext, taken, lexComment, lexLiteralString, lexBasicString, lexMlLiteralString, lexMlBasicString}
@@ -161,49 +162,38 @@ module _ (s : List ℕ) (i : ℕ) (h : i < length s) where
   unfolding lexMlLiteralString
   ml-literal-on e = ap lexMlLiteralString (here s i h) ∙ rw (rw (here s i h) at e)
 
--- a byte that is none of three that end a token is passed over
-module _ (x y z b : ℕ) (e : noneOf x y z b ≡ true) where
-  none-first : (t : Bool) → eqb b x ≡ t → t ≡ false
-  none-first true q = sym e ∙ rw q
-  none-first false q = refl
+-- a byte that is none of those that end a token is passed over
+not-first : (x : ℕ) (xs : List ℕ) (b : ℕ) → noneOf (x ∷ xs) b ≡ true → eqb b x ≡ false
+not-first x xs b e = by-test (eqb b x) e
+  where
+    by-test : (t : Bool) → cond t false (noneOf xs b) ≡ true → t ≡ false
+    by-test true q = absurd (false≢true q)
+    by-test false q = refl
 
-  pub not-first : eqb b x ≡ false
-  not-first = none-first (eqb b x) refl
+not-rest : (x : ℕ) (xs : List ℕ) (b : ℕ) → noneOf (x ∷ xs) b ≡ true → noneOf xs b ≡ true
+not-rest x xs b e = by-test (eqb b x) e
+  where
+    by-test : (t : Bool) → cond t false (noneOf xs b) ≡ true → noneOf xs b ≡ true
+    by-test true q = absurd (false≢true q)
+    by-test false q = q
 
-  none-second : (t : Bool) → eqb b y ≡ t → t ≡ false
-  none-second true q = sym e ∙ rw (not-first, q)
-  none-second false q = refl
+module _ (b : ℕ) (bs : List ℕ) where
+  pub comment-passes : inComment b ≡ true → lexComment (b ∷ bs) ≡ suc (lexComment bs)
+  unfolding until
+  comment-passes e = rw (not-first carriageReturn (lineFeed ∷ []) b e, not-first lineFeed [] b (not-rest carriageReturn (lineFeed ∷ []) b e))
 
-  pub not-second : eqb b y ≡ false
-  not-second = none-second (eqb b y) refl
+  pub literal-passes : inLiteral b ≡ true → lexLiteralString (b ∷ bs) ≡ suc (lexLiteralString bs)
+  unfolding lexLiteralString
+  literal-passes e = rw (not-first apostrophe (lineFeed ∷ []) b e, not-first lineFeed [] b (not-rest apostrophe (lineFeed ∷ []) b e))
 
-  none-third : (t : Bool) → eqb b z ≡ t → t ≡ false
-  none-third true q = sym e ∙ rw (not-first, not-second, q)
-  none-third false q = refl
+  three-not : (q : ℕ) → eqb b q ≡ false → startsWith (threeOf q) (b ∷ bs) ≡ false
+  unfolding peeks
+  three-not q e = rw e
 
-  pub not-third : eqb b z ≡ false
-  not-third = none-third (eqb b z) refl
+  pub ml-literal-passes : inMlLiteral b ≡ true → lexMlLiteralString (b ∷ bs) ≡ suc (lexMlLiteralString bs)
+  unfolding lexMlLiteralString
+  ml-literal-passes e = rw (three-not apostrophe (not-first apostrophe [] b e))
 
-pub comment-passes : (b : ℕ) (bs : List ℕ) → noneOf carriageReturn lineFeed lineFeed b ≡ true → lexComment (b ∷ bs) ≡ suc (lexComment bs)
-unfolding until
-comment-passes b bs e = rw (not-first carriageReturn lineFeed lineFeed b e, not-second carriageReturn lineFeed lineFeed b e)
-
-pub literal-passes : (b : ℕ) (bs : List ℕ) → noneOf apostrophe lineFeed lineFeed b ≡ true → lexLiteralString (b ∷ bs) ≡ suc (lexLiteralString bs)
-unfolding lexLiteralString
-literal-passes b bs e = rw (not-first apostrophe lineFeed lineFeed b e, not-second apostrophe lineFeed lineFeed b e)
-
-pub basic-passes : (b : ℕ) (bs : List ℕ) → noneOf quotationMark backslash lineFeed b ≡ true → lexBasicString false (b ∷ bs) ≡ suc (lexBasicString false bs)
-unfolding lexBasicString
-basic-passes b bs e = rw (not-first quotationMark backslash lineFeed b e, not-second quotationMark backslash lineFeed b e, not-third quotationMark backslash lineFeed b e)
-
-three-not : (q b : ℕ) (bs : List ℕ) → eqb b q ≡ false → startsWith (threeOf q) (b ∷ bs) ≡ false
-unfolding peeks
-three-not q b bs e = rw e
-
-pub ml-literal-passes : (b : ℕ) (bs : List ℕ) → noneOf apostrophe apostrophe apostrophe b ≡ true → lexMlLiteralString (b ∷ bs) ≡ suc (lexMlLiteralString bs)
-unfolding lexMlLiteralString
-ml-literal-passes b bs e = rw (three-not apostrophe b bs (not-first apostrophe apostrophe apostrophe b e))
-
-pub ml-basic-passes : (b : ℕ) (bs : List ℕ) → noneOf quotationMark backslash backslash b ≡ true → lexMlBasicString false (b ∷ bs) ≡ suc (lexMlBasicString false bs)
-unfolding lexMlBasicString
-ml-basic-passes b bs e = rw (three-not quotationMark b bs (not-first quotationMark backslash backslash b e), not-second quotationMark backslash backslash b e)
+  pub ml-basic-passes : inMlBasic b ≡ true → lexMlBasicString false (b ∷ bs) ≡ suc (lexMlBasicString false bs)
+  unfolding lexMlBasicString
+  ml-basic-passes e = rw (three-not quotationMark (not-first quotationMark (backslash ∷ []) b e), not-first backslash [] b (not-rest quotationMark (backslash ∷ []) b e))

@@ -1,7 +1,6 @@
 // Where a basic string ends.
 use crate::quotes::starts_three;
 use crate::quotes::up_to_two;
-use places::past_none_of;
 ghost use mathlib.Core.Path.{_≡_};
 ghost use mathlib.Core.Bool.{false};
 ghost use Prim.Native.Nat.{_≤_};
@@ -40,7 +39,7 @@ pub fn lex_basic_string(text: &[u8], at: usize) -> usize
     requires { ⌜ at ≤ length (now text) ⌝ }
     ensures { λ r. ⌜ Scanned (λ bs. lexBasicString false bs) (now (text .entry)) at r ⌝ }
 {
-    let mut i = past_none_of(text, at, b'"', b'\\', b'\n');
+    let mut i = at;
     while i < text.len() {
         let b = text[i];
         if b == b'"' {
@@ -58,7 +57,7 @@ pub fn lex_ml_basic_string(text: &[u8], at: usize) -> usize
     requires { ⌜ at ≤ length (now text) ⌝ }
     ensures { λ r. ⌜ Scanned (λ bs. lexMlBasicString false bs) (now (text .entry)) at r ⌝ }
 {
-    let mut i = past_none_of(text, at, b'"', b'\\', b'\\');
+    let mut i = places::ml_basic::past_plain(text, at);
     while i < text.len() {
         if starts_three(text, i, b'"') {
             return up_to_two(text, i + 3, b'"');

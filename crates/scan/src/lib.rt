@@ -3,5 +3,5 @@ pub mod basic;
 pub mod lexer;
 pub mod literal;
 pub mod quotes;
-pub mod scan;
+pub mod sets;
 pub mod start;

@@ -1,7 +1,6 @@
 // Where a literal string ends.
 use crate::quotes::starts_three;
 use crate::quotes::up_to_two;
-use places::past_none_of;
 ghost use Prim.Native.Nat.{_≤_};
 ghost use lib.ListN.{length};
 ghost use Rattle.places.specs.Places.{Scanned};
@@ -11,7 +10,7 @@ pub fn lex_literal_string(text: &[u8], at: usize) -> usize
     requires { ⌜ at ≤ length (now text) ⌝ }
     ensures { λ r. ⌜ Scanned lexLiteralString (now (text .entry)) at r ⌝ }
 {
-    let mut i = past_none_of(text, at, b'\'', b'\n', b'\n');
+    let mut i = places::literal::past_plain(text, at);
     while i < text.len() {
         let b = text[i];
         if b == b'\'' {
@@ -29,7 +28,7 @@ pub fn lex_ml_literal_string(text: &[u8], at: usize) -> usize
     requires { ⌜ at ≤ length (now text) ⌝ }
     ensures { λ r. ⌜ Scanned lexMlLiteralString (now (text .entry)) at r ⌝ }
 {
-    let mut i = past_none_of(text, at, b'\'', b'\'', b'\'');
+    let mut i = places::ml_literal::past_plain(text, at);
     while i < text.len() {
         if starts_three(text, i, b'\'') {
             return up_to_two(text, i + 3, b'\'');

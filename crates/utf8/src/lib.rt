@@ -99,28 +99,28 @@ fn sequence_at(text: &[u8], at: usize) -> usize
     0
 }
 
-// 1 for a byte that is not ASCII.
-fn top(b: u8) -> u8
-    ensures { λ r. ⌜ r ≡ cond (isAscii b) 0 1 ⌝ }
+// 1 for an ASCII byte.
+fn ascii(b: u8) -> u8
+    ensures { λ r. ⌜ r ≡ cond (isAscii b) 1 0 ⌝ }
 {
     if b < 128 {
-        return 0;
+        return 1;
     }
-    1
+    0
 }
 
-// Whether the sixteen bytes from `at` on are ASCII. All are asked, so that the compiler may take them at once.
+// Whether the sixteen bytes from `at` on are ASCII. They are counted, so that the compiler takes them at once.
 fn sixteen_ascii(text: &[u8], at: usize) -> bool
     requires { ⌜ at + 16 ≤ length (now text) ⌝ }
     ensures { λ r. ⌜ r ≡ allOf isAscii 16 (drop at (now (text .entry))) ⌝ }
 {
-    let mut tops: u8 = 0;
+    let mut count: u8 = 0;
     let mut k = 0;
     while k < 16 {
-        tops += top(text[at + k]);
+        count += ascii(text[at + k]);
         k += 1;
     }
-    tops == 0
+    count == 16
 }
 
 // Past ASCII bytes, sixteen at a time.

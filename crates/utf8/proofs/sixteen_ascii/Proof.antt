@@ -1,35 +1,35 @@
--- The tops stay 0 as long as all are ASCII.
+-- The count is that of the turns as long as all are ASCII.
 -- Made by ./proofs from Proof.tmpl: change that.
 use mathlib.Core.Path.{_≡_, ap, sym, _∙_}
 use native.Mathlib.Omega.{arith}
 use Prim.Native.Nat.{_-_, _≤_, _<_, _+_}
 use lib.ListN.{getD}
 use Rattle.utf8.specs.Steps.{isAscii}
-use Rattle.places.specs.PlaceLaws.{Tallied, tally-begun, tally-on, tally-end, hit-small}
+use Rattle.places.specs.PlaceLaws.{Tallied, tally-begun, tally-on, tally-end, one-most}
 use borrow.Author.Needs.{needs}
 use Rattle.utf8.proofs.sixteen_ascii.Statement.{statement}
 use Rattle.utf8.proofs.sixteen_ascii.Tie as tie
 
 abbrev Inv-loop : tie.InvT-loop
-Inv-loop text at tops₀ k₀ tops k = Tallied isAscii text at tops k
+Inv-loop text at count₀ k₀ count k = Tallied isAscii text at count k
 
 abbrev μ-loop : tie.MeasureT-loop
-μ-loop text at tops₀ k₀ tops k = 16 - k
+μ-loop text at count₀ k₀ count k = 16 - k
 
 loop-holds : tie.Need-loop-holds Inv-loop μ-loop
 loop-holds c = tally-begun isAscii ((c .before .args) .text .now) ((c .before .args) .at)
 
-add-top : tie.Need-add-top Inv-loop μ-loop
-add-top c = omega (arith, (c .before .before .before .pre))
+add-ascii : tie.Need-add-ascii Inv-loop μ-loop
+add-ascii c = omega (arith, (c .before .before .before .pre))
 
-shared-slice-read-top : tie.Need-shared-slice-read-top Inv-loop μ-loop
-shared-slice-read-top c = omega (arith, (c .before .before .before .before .pre), (c .before .loop-test) .taken)
+shared-slice-read-ascii : tie.Need-shared-slice-read-ascii Inv-loop μ-loop
+shared-slice-read-ascii c = omega (arith, (c .before .before .before .before .pre), (c .before .loop-test) .taken)
 
-top-requires : tie.Need-top-requires Inv-loop μ-loop
-top-requires c κs = search needs
+ascii-requires : tie.Need-ascii-requires Inv-loop μ-loop
+ascii-requires c κs = search needs
 
-add-tops : tie.Need-add-tops Inv-loop μ-loop
-add-tops c = omega (arith, (c .before .before .before .loop) .inv .few, (c .before .before .before .loop) .inv .most, (c .before .before .loop-test) .taken, (c .top) .ensures, hit-small isAscii (getD ((c .before .before .before .before .before .args) .text .now) ((c .before .before .before .before .before .args) .at + (c .before .before .before .loop) .k) 0))
+add-count : tie.Need-add-count Inv-loop μ-loop
+add-count c = omega (arith, (c .before .before .before .loop) .inv .few, (c .before .before .before .loop) .inv .most, (c .before .before .loop-test) .taken, (c .ascii) .ensures, one-most isAscii (getD ((c .before .before .before .before .before .args) .text .now) ((c .before .before .before .before .before .args) .at + (c .before .before .before .loop) .k) 0))
 
 add-k : tie.Need-add-k Inv-loop μ-loop
 add-k c = search needs
@@ -38,7 +38,7 @@ loop-less : tie.Need-loop-less Inv-loop μ-loop
 loop-less c = search needs
 
 loop-again : tie.Need-loop-again Inv-loop μ-loop
-loop-again c = tally-on ((c .before .before .before .loop) .inv) ((c .before .before .loop-test) .taken) (omega (arith, (c .before .before .before .before .before .pre), (c .before .before .loop-test) .taken)) _ ((c .top) .ensures)
+loop-again c = tally-on ((c .before .before .before .loop) .inv) ((c .before .before .loop-test) .taken) (omega (arith, (c .before .before .before .before .before .pre), (c .before .before .loop-test) .taken)) _ ((c .ascii) .ensures)
 
 returns : tie.Need-returns Inv-loop μ-loop
 returns c = tally-end ((c .before .loop) .inv) ((c .loop-test) .left)
@@ -50,10 +50,10 @@ sixteen-ascii-spec =
     Inv-loop
     μ-loop
     loop-holds
-    add-top
-    shared-slice-read-top
-    top-requires
-    add-tops
+    add-ascii
+    shared-slice-read-ascii
+    ascii-requires
+    add-count
     add-k
     loop-less
     loop-again

@@ -17,11 +17,11 @@ Inv-loop text at i₀ i = Still lexLiteralString text at i
 abbrev μ-loop : tie.MeasureT-loop
 μ-loop text at i₀ i = length text - i
 
-past-none-of-requires : tie.Need-past-none-of-requires Inv-loop μ-loop
-past-none-of-requires c κs = (c .before .pre)
+past-plain-requires : tie.Need-past-plain-requires Inv-loop μ-loop
+past-plain-requires c κs = (c .before .pre)
 
 loop-holds : tie.Need-loop-holds Inv-loop μ-loop
-loop-holds c = passed-still literal-passes ((c .past-none-of) .ensures)
+loop-holds c = passed-still literal-passes ((c .past-plain) .ensures)
 
 shared-slice-read-b : tie.Need-shared-slice-read-b Inv-loop μ-loop
 shared-slice-read-b c = search needs
@@ -54,7 +54,7 @@ lex-literal-string-spec =
     (tie.spec
     Inv-loop
     μ-loop
-    past-none-of-requires
+    past-plain-requires
     loop-holds
     shared-slice-read-b
     add-result
