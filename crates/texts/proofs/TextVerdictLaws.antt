@@ -3,7 +3,7 @@ use mathlib.Core.Path.{_≡_, refl, ap, ap₂, sym, subst, _∙_}
 use mathlib.Core.Bool.{Bool, true, false, cond, false≢true}
 use mathlib.Core.Logic.{_↔_}
 use mathlib.Core.List.{List, []}
-use Prim.Native.Nat.{ℕ, _*_, _/_, _≤_}
+use Prim.Native.Nat.{ℕ, _*_, _/_, _<_, _≤_}
 use native.Mathlib.Omega.{arith}
 use lib.ListN.{length, take}
 use lib.Dec.{eqb, ltb}
@@ -23,9 +23,10 @@ use Rattle.quiet.specs.Verdicts.{Sound, Roomy, Judges, Judged, refusalOf, place
 use Rattle.lex.specs.declared.Lexed.{Lexed}
 use Rattle.scan.specs.Lexer.{tokensOf}
 use Rattle.lex.specs.Lexed.{LexOutcome, lexOutcome}
-use Rattle.text_rules.specs.TextOutcome.{textOutcome, textRun}
+use Rattle.text_rules.specs.TextOutcome.{TextOutcome, textOutcome, runOf, textRun}
 use Rattle.text_rules.specs.TextPremises.{WithinLimits, RecordRoom}
-use Rattle.text_rules.specs.LexedLaws.{accepted}
+use Rattle.text_rules.specs.LexedLaws.{accepted, lexed-count}
+use Rattle.text_rules.specs.TextLaws.{text-many}
 use Rattle.text_rules.specs.RunLaws.{buffer-is, run-refused, refused-beyond, refusal-none, run-is, tokens-are, regular-are, few-pass}
 use Rattle.texts.specs.TextVerdicts.{SoundText, EventRoom, textRefusalOf, textPlaceOf, JudgesText, TextJudgement, DeterminedTextVerdict, JudgedText, TextVerdictsJudge}
 
@@ -124,6 +125,27 @@ module _ (text records events : List ℕ) (r : Lexed) (after : List ℕ) (e : re
           place = j .place ∙ place-text;
           recordsLeft = buffer-is text records events [] r after e;
           eventsLeft = j .left ∙ events-text;
+        }
+
+    -- too many records: they are not judged
+    pub text-many-unjudged : maxRecords < r .records → JudgesText text records events after events (record { fits = false; refusal = 2; place = maxRecords })
+    text-many-unjudged many =
+        let q = text-many text records events [] r after e z many in
+        let b = eq-eqb (r .refusal) 0 z in
+        let two : Answer = record { refusal = 2; place = maxRecords; events = 0; errors = 0 } in
+        let all : r .records ≡ length (tokensOf text) = ap (λ (x : LexOutcome). x .answer .records) e ∙ lexed-count text records (refusal-none text records events [] r after e z) in
+        record {
+          yes = (λ f. absurd (false≢true f), λ x. absurd (omega (arith, many, all, x .0 .within .few)));
+          refusal =
+              ap (λ (t : Bool). cond t 2 (r .refusal)) (sym b)
+              ∙ ap (λ (l : Lexed). textRefusalOf l two tight) (sym lexed-is)
+              ∙ ap (λ (o : TextOutcome). textRefusalOf (lexOutcome text records .answer) (runOf o .answer) tight) q;
+          place =
+              ap (λ (t : Bool). cond t maxRecords (r .place)) (sym b)
+              ∙ ap (λ (l : Lexed). textPlaceOf l two) (sym lexed-is)
+              ∙ ap (λ (o : TextOutcome). textPlaceOf (lexOutcome text records .answer) (runOf o .answer)) q;
+          recordsLeft = buffer-is text records events [] r after e;
+          eventsLeft = ap (λ (o : TextOutcome). o .events) q;
         }
 
     -- and back
