@@ -1,0 +1,54 @@
+-- What the exported functions over texts promise. Assumes nothing.
+use mathlib.Core.Path.{_≡_}
+use mathlib.Core.List.{List}
+use Prim.Native.Nat.{ℕ}
+use Rattle.lex.specs.declared.Lexed.{Lexed}
+use Rattle.lex.specs.Lexed.{LexOutcome, lexOutcome}
+use Rattle.text_rules.specs.declared.answer.TextAnswer.{TextAnswer}
+use Rattle.text_rules.specs.TextOutcome.{TextAnswers}
+use Rattle.texts.specs.TextVerdicts.{JudgesText}
+use Rattle.deckmarten.specs.declared.verdicts.ExportedVerdict.{ExportedVerdict}
+use Rattle.deckmarten.specs.ExportedVerdicts.{plainVerdict}
+use Rattle.deckmarten.specs.declared.text.ExportedLexed.{ExportedLexed}
+use Rattle.deckmarten.specs.declared.text.ExportedTextAnswer.{ExportedTextAnswer}
+
+-- the answers that the C structures hold
+abbrev pub plainLexed : ExportedLexed → Lexed
+plainLexed r = record { refusal = r .refusal; place = r .place; base = r .base; records = r .records }
+
+abbrev pub plainText : ExportedTextAnswer → TextAnswer
+plainText r = record { refusal = r .refusal; place = r .place; base = r .base; records = r .records; events = r .events; errors = r .errors }
+
+-- the C structure r, with the record buffer after it, holds the answer of the lexer's definition
+abbrev pub ExportsLexed : List ℕ → List ℕ → List ℕ → ExportedLexed → Type 0
+ExportsLexed text records after r = record { answer = plainLexed r; buffer = after } ≡ lexOutcome text records
+
+-- the C structure r, with the three buffers after it, holds the answer of the joined entry's definition
+abbrev pub ExportsText : List ℕ → List ℕ → List ℕ → List ℕ → List ℕ → List ℕ → List ℕ → ExportedTextAnswer → Type 0
+ExportsText text records events errors recordsAfter eventsAfter errorsAfter r = TextAnswers text records events errors recordsAfter eventsAfter errorsAfter (plainText r)
+
+-- the C structure r, with the two buffers after it, holds the answer of `text_fits`
+abbrev pub ExportsTextVerdict : List ℕ → List ℕ → List ℕ → List ℕ → List ℕ → ExportedVerdict → Type 0
+ExportsTextVerdict text records events recordsAfter eventsAfter r = JudgesText text records events recordsAfter eventsAfter (plainVerdict r)
+
+-- the C structures, each with the buffers after it
+pub record ExportedLexedOutcome : Type 0 where
+  pub answer : ExportedLexed
+  pub records : List ℕ
+
+pub record ExportedTextOutcome : Type 0 where
+  pub answer : ExportedTextAnswer
+  pub records : List ℕ
+  pub events : List ℕ
+  pub errors : List ℕ
+
+pub record ExportedTextJudgement : Type 0 where
+  pub verdict : ExportedVerdict
+  pub records : List ℕ
+  pub events : List ℕ
+
+-- two that meet the same contract for the same input are equal
+pub record ExportedTextsDetermined (text records events errors : List ℕ) : Type 0 where
+  pub lexed : (x y : ExportedLexedOutcome) → ExportsLexed text records (x .records) (x .answer) → ExportsLexed text records (y .records) (y .answer) → x ≡ y
+  pub parsed : (x y : ExportedTextOutcome) → ExportsText text records events errors (x .records) (x .events) (x .errors) (x .answer) → ExportsText text records events errors (y .records) (y .events) (y .errors) (y .answer) → x ≡ y
+  pub judged : (x y : ExportedTextJudgement) → ExportsTextVerdict text records events (x .records) (x .events) (x .verdict) → ExportsTextVerdict text records events (y .records) (y .events) (y .verdict) → x ≡ y
