@@ -7,7 +7,7 @@ use Rattle.token.specs.declared.kind.Kind.{Kind}
 use Rattle.token.specs.declared.kind.Kind.the-variants.{Atom, Eof}
 use Rattle.token.specs.Kinds.{numberOf}
 use Rattle.token.specs.Tokens.{Tok, tok}
-use Rattle.rules.specs.Grammar.{noWhitespace, literal, basic, multiLineLiteral, multiLineBasic, atomPart, noDot, aKey, itIsDot, itIsAtom, aString, unquotedScalar, Inside, Value, aScalar, anArray, anInlineTable, aPair, noExpression, pairExpression, noComment, Line, aLine, lineAndMore, lastLine, Fits}
+use Rattle.rules.specs.Grammar.{noWhitespace, literal, basic, multiLineLiteral, multiLineBasic, Parts, atomPart, noDot, aKey, itIsDot, itIsAtom, aString, unquotedScalar, Inside, Value, aScalar, anArray, anInlineTable, aPair, noExpression, pairExpression, noComment, Line, aLine, lineAndMore, lastLine, Fits}
 use Rattle.rules.specs.Premises.{EndToEnd, anEvent, OpenBracket, openArray, openInlineTable, opens, closes, Changes, opensOne, closesLast, Nests, nestsEvent, SameButForCuts, sameToken, sameTwoTokens, cutOtherwise}
 use Rattle.rules.specs.RuledOut.{withGap, crossing, keyEvents, keyWhole, keyCut, withoutValue}
 
@@ -53,9 +53,9 @@ value-first (anArray i) e = omega (arith, ap numberOf e)
 value-first (anInlineTable i) e = omega (arith, ap numberOf e)
 
 -- the line with which this list begins is empty, so that an Atom follows it, or has a value
-without-value-line : {N : Inside} {k : Kind} {a b : ℕ} {rest : List Tok} → (k ≡ Atom → ⊥) → Line N withoutValue (tok k a b ∷ rest) → ⊥
+without-value-line : {P : Parts} {N : Inside} {k : Kind} {a b : ℕ} {rest : List Tok} → (k ≡ Atom → ⊥) → Line P N withoutValue (tok k a b ∷ rest) → ⊥
 without-value-line n (aLine noWhitespace noExpression noWhitespace noComment) = n refl
-without-value-line n (aLine noWhitespace (pairExpression (aPair (aKey atomPart noDot) noWhitespace noWhitespace v)) w c) = value-first v refl
+without-value-line n (aLine noWhitespace (pairExpression (aPair (aKey (atomPart l) noDot) noWhitespace noWhitespace v)) w c) = value-first v refl
 
 pub without-value-ruled-out : Fits withoutValue → ⊥
 without-value-ruled-out (n, lineAndMore l d) = without-value-line (λ e. omega (arith, ap numberOf e)) l
