@@ -1,2 +1,3 @@
 pub mod Exported
 pub mod Determined
+pub mod ExportedVerdicts

@@ -2,6 +2,7 @@
 // as a C structure.
 pub mod answer;
 pub mod theorems;
+pub mod verdicts;
 
 use crate::answer::ExportedAnswer;
 use crate::answer::exported;
