@@ -1,14 +1,13 @@
 -- From a quiet run to one without a multi-line key: the words of an event tell whether it is such a key, so that the items of a quiet run have
 -- only keys of the kinds that the grammar allows exactly when the buffer shows no multi-line key. Proved; nothing here needs to be believed.
-use mathlib.Core.Path.{_≡_, refl, ap, sym, subst, _∙_}
-use mathlib.Core.Bool.{Bool, true, false, false≢true}
+use mathlib.Core.Path.{_≡_, refl, sym, subst, _∙_}
+use mathlib.Core.Bool.{Bool, false, false≢true}
 use mathlib.Core.Logic.{_↔_}
 use mathlib.Core.List.{List, [], _∷_}
 use Prim.Native.Nat.{ℕ, zero, suc, _+_, _*_, _/_, _<_, _≤_}
 use native.Mathlib.Omega.{arith}
 use lib.ListN.{length, getD}
 use Rattle.token.specs.declared.kind.Kind.{Kind}
-use Rattle.token.specs.declared.kind.Kind.the-variants.{MlLiteralString, MlBasicString}
 use Rattle.token.specs.Kinds.{numberOf}
 use Rattle.token.specs.Tokens.{Tok, allTokens}
 use Rattle.rules.specs.declared.event.Encoding.{Encoding}
@@ -16,13 +15,13 @@ use Rattle.rules.specs.declared.event.Event.{Event}
 use Rattle.rules.specs.Out.{Item, event, eventAfter, report, stop}
 use Rattle.rules.specs.Entries.{Entry, parse}
 use Rattle.rules.specs.Words.{eventNumber, encodingOf, eventsOf}
-use Rattle.rules.specs.Answer.{eventSize, Outcome, filled, walked, outcome}
+use Rattle.rules.specs.Answer.{eventSize, filled, walked, outcome}
 use Rattle.rules.specs.Grammar.{Parts, SingleLine, bare, quotedBasic, quotedLiteral, AnyKind}
 use Rattle.rules.specs.Quiet.{KeyIn, Quiet, QuietRun, multiLineKey, NoMultiLineKey}
 use Rattle.rules.proofs.OutcomeLaws.{passed-outcome, any-key, word-at, QuietOutcome, quiet-outcome, outcome-quiet}
 
 -- a kind that the grammar allows is none of the multi-line strings
-allowed : {k : Kind} → SingleLine k → (numberOf k ≡ 13 → ⊥) × (numberOf k ≡ 14 → ⊥)
+pub allowed : {k : Kind} → SingleLine k → (numberOf k ≡ 13 → ⊥) × (numberOf k ≡ 14 → ⊥)
 allowed bare = (λ e. omega (arith, e), λ e. omega (arith, e))
 allowed quotedBasic = (λ e. omega (arith, e), λ e. omega (arith, e))
 allowed quotedLiteral = (λ e. omega (arith, e), λ e. omega (arith, e))
