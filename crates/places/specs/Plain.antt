@@ -12,10 +12,6 @@ inComment b = noneOf (13 ∷ 10 ∷ []) b
 abbrev pub inLiteral : ℕ → Bool
 inLiteral b = noneOf (39 ∷ 10 ∷ []) b
 
--- a basic string: no quotation mark and no backslash and no LF
-abbrev pub inBasic : ℕ → Bool
-inBasic b = noneOf (34 ∷ 92 ∷ 10 ∷ []) b
-
 -- a multi-line literal string: no apostrophe
 abbrev pub inMlLiteral : ℕ → Bool
 inMlLiteral b = noneOf (39 ∷ []) b

@@ -1,6 +1,5 @@
 // Looking through a text from a place on: a byte at a place, and bytes that a token goes on with whatever they are next to, passed
 // sixteen at a time. The sets of these are written out, so that the compiler compares sixteen bytes at once.
-pub mod basic;
 pub mod comment;
 pub mod literal;
 pub mod ml_basic;

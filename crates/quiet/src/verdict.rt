@@ -15,7 +15,7 @@ pub struct Verdict {
 }
 
 // Refusals 1 to 6: the list is not judged.
-fn is_unjudged(refusal: u32) -> bool
+pub fn is_unjudged(refusal: u32) -> bool
     ensures { λ r. ⌜ r ≡ unjudged refusal ⌝ }
 {
     if refusal < 7 {
@@ -24,7 +24,7 @@ fn is_unjudged(refusal: u32) -> bool
     false
 }
 
-fn answered(fits: bool, refusal: u32, place: usize) -> Verdict
+pub fn answered(fits: bool, refusal: u32, place: usize) -> Verdict
     ensures { λ r. ⌜ r ≡ record { fits = fits; refusal = refusal; place = place } ⌝ }
 {
     Verdict {

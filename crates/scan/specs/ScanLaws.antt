@@ -9,7 +9,7 @@ use lib.Seq.{drop-drop}
 use lib.Dec.{eqb}
 use borrow.Author.Tests.{eqb-true, ne-eqb}
 use Rattle.places.specs.Places.{isByte, peeks, startsWith, noneOf}
-use Rattle.places.specs.Plain.{inComment, inLiteral, inBasic, inMlLiteral, inMlBasic}
+use Rattle.places.specs.Plain.{inComment, inLiteral, inMlLiteral, inMlBasic}
 use Rattle.places.specs.PlaceLaws.{here, peeks-within, dropped, dropped-two, dropped-three}
 use Rattle.scan.specs.Bytes.{lineFeed, carriageReturn, quotationMark, apostrophe, backslash}
 use Rattle.scan.specs.Lexer.{until, endsComment, threeOf, upToTwo, escapable, takesNext, taken, lexComment, lexLiteralString, lexBasicString, lexMlLiteralString, lexMlBasicString}
@@ -185,12 +185,6 @@ module _ (b : ℕ) (bs : List ℕ) where
   pub literal-passes : inLiteral b ≡ true → lexLiteralString (b ∷ bs) ≡ suc (lexLiteralString bs)
   unfolding lexLiteralString
   literal-passes e = rw (not-first apostrophe (lineFeed ∷ []) b e, not-first lineFeed [] b (not-rest apostrophe (lineFeed ∷ []) b e))
-
-  pub basic-passes : inBasic b ≡ true → lexBasicString false (b ∷ bs) ≡ suc (lexBasicString false bs)
-  unfolding lexBasicString
-  basic-passes e =
-      let r = not-rest quotationMark (backslash ∷ lineFeed ∷ []) b e in
-      rw (not-first quotationMark (backslash ∷ lineFeed ∷ []) b e, not-first backslash (lineFeed ∷ []) b r, not-first lineFeed [] b (not-rest backslash (lineFeed ∷ []) b r))
 
   three-not : (q : ℕ) → eqb b q ≡ false → startsWith (threeOf q) (b ∷ bs) ≡ false
   unfolding peeks

@@ -39,7 +39,7 @@ pub fn lex_basic_string(text: &[u8], at: usize) -> usize
     requires { ⌜ at ≤ length (now text) ⌝ }
     ensures { λ r. ⌜ Scanned (λ bs. lexBasicString false bs) (now (text .entry)) at r ⌝ }
 {
-    let mut i = places::basic::past_plain(text, at);
+    let mut i = at;
     while i < text.len() {
         let b = text[i];
         if b == b'"' {

@@ -54,3 +54,11 @@ pub record TextJudgement : Type 0 where
 abbrev pub DeterminedTextVerdict : List ℕ → List ℕ → List ℕ → Type 0
 DeterminedTextVerdict text records events =
     (x y : TextJudgement) → JudgesText text records events (x .records) (x .events) (x .verdict) → JudgesText text records events (y .records) (y .events) (y .verdict) → x ≡ y
+
+-- what an answer says by itself: where there is no refusal it is yes exactly when the text is sound; and where it is yes there is no refusal
+pub record JudgedText (text : List ℕ) (v : Verdict) : Type 0 where
+  pub decides : v .refusal ≡ 0 → (v .fits ≡ true) ↔ SoundText text
+  pub accepted : v .fits ≡ true → v .refusal ≡ 0
+
+abbrev pub TextVerdictsJudge : List ℕ → List ℕ → List ℕ → Type 0
+TextVerdictsJudge text records events = (recordsAfter eventsAfter : List ℕ) (v : Verdict) → JudgesText text records events recordsAfter eventsAfter v → JudgedText text v

@@ -32,6 +32,7 @@ use oracle::walk;
 use oracle::Entry;
 
 mod lists;
+mod rooms;
 mod texts;
 
 type Feed = feeding::Feed<Stdout>;
