@@ -30,3 +30,25 @@ ExportsText text records events errors recordsAfter eventsAfter errorsAfter r = 
 -- the C structure r, with the two buffers after it, holds the answer of `text_fits`
 abbrev pub ExportsTextVerdict : List ℕ → List ℕ → List ℕ → List ℕ → List ℕ → ExportedVerdict → Type 0
 ExportsTextVerdict text records events recordsAfter eventsAfter r = JudgesText text records events recordsAfter eventsAfter (plainVerdict r)
+
+-- the C structures, each with the buffers after it
+pub record ExportedLexedOutcome : Type 0 where
+  pub answer : ExportedLexed
+  pub records : List ℕ
+
+pub record ExportedTextOutcome : Type 0 where
+  pub answer : ExportedTextAnswer
+  pub records : List ℕ
+  pub events : List ℕ
+  pub errors : List ℕ
+
+pub record ExportedTextJudgement : Type 0 where
+  pub verdict : ExportedVerdict
+  pub records : List ℕ
+  pub events : List ℕ
+
+-- two that meet the same contract for the same input are equal
+pub record ExportedTextsDetermined (text records events errors : List ℕ) : Type 0 where
+  pub lexed : (x y : ExportedLexedOutcome) → ExportsLexed text records (x .records) (x .answer) → ExportsLexed text records (y .records) (y .answer) → x ≡ y
+  pub parsed : (x y : ExportedTextOutcome) → ExportsText text records events errors (x .records) (x .events) (x .errors) (x .answer) → ExportsText text records events errors (y .records) (y .events) (y .errors) (y .answer) → x ≡ y
+  pub judged : (x y : ExportedTextJudgement) → ExportsTextVerdict text records events (x .records) (x .events) (x .verdict) → ExportsTextVerdict text records events (y .records) (y .events) (y .verdict) → x ≡ y

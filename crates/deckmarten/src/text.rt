@@ -5,9 +5,10 @@ use lex::Lexed;
 use lex::lex;
 use text_rules::answer::TextAnswer;
 use texts::entry::parse_text;
+use texts::theorems::text_verdicts_are_determined;
 use texts::verdict::text_fits;
 ghost use mathlib.Core.Path.{_≡_};
-ghost use Rattle.deckmarten.specs.ExportedTexts.{plainLexed, plainText, ExportsLexed, ExportsText, ExportsTextVerdict};
+ghost use Rattle.deckmarten.specs.ExportedTexts.{plainLexed, plainText, ExportsLexed, ExportsText, ExportsTextVerdict, ExportedTextsDetermined};
 
 // The refusal's number (0 if none) and its place; where the tokens start; how many records there are.
 #[repr(C)]
@@ -86,4 +87,11 @@ pub extern "C" fn deckmarten_text_fits(
 {
     let v = text_fits(text, records, events);
     exported_verdict(v)
+}
+
+// Two C structures, each with the buffers that it leaves, that both meet the contract of one of these for the same input are equal.
+pub fn exported_texts_are_determined(text: &[u8], records: &[u8], events: &[u32], errors: &[u32])
+    ensures { λ _. ⌜ ExportedTextsDetermined (now (text .entry)) (now (records .entry)) (now (events .entry)) (now (errors .entry)) ⌝ }
+{
+    text_verdicts_are_determined(text, records, events)
 }
