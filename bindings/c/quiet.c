@@ -24,6 +24,12 @@ static const struct {
     /* an error is reported */
     {"[[a]\n$", 0, 1, 0},
     {"a=[a 'a]$", 0, 1, 0},
+    /* quiet, but a key is a multi-line string; as a value it is fine */
+    {"[B]$", 1, 1, 0},
+    {"L=a$", 1, 1, 0},
+    {"a.L=a$", 1, 1, 0},
+    {"a={B=a}$", 1, 1, 0},
+    {"a=[B,L]$", 1, 1, 1},
     /* quiet, but not one Eof that is last, or adjacent Whitespace */
     {"", 1, 0, 0},
     {"a", 1, 0, 0},

@@ -15,6 +15,13 @@ static void show_bytes(const uint8_t *text, const uint32_t *event) {
     fwrite(text + start, 1, end - start, stdout);
 }
 
+/* Whether an event is a key that is a multi-line string. No report says so, but TOML 1.0.0 has no such key, and the text does not fit. */
+static bool is_multi_line_key(const uint32_t *event) {
+    uint32_t kind = event[0], encoding = event[1];
+    return kind == DECKMARTEN_EVENT_SIMPLE_KEY &&
+           (encoding == DECKMARTEN_ENCODING_ML_LITERAL_STRING || encoding == DECKMARTEN_ENCODING_ML_BASIC_STRING);
+}
+
 /* Shows one file and answers whether its text fits. */
 static bool show(const char *name) {
     size_t bytes;
@@ -28,8 +35,9 @@ static bool show(const char *name) {
 
     struct deckmarten_text_answer answer =
         deckmarten_parse_text(text, bytes, records, record_bytes, events, event_words, errors, error_words);
-    /* a text's records end in one Eof and have no adjacent Whitespace, so quiet means that they fit */
+    /* a text's records end in one Eof and have no adjacent Whitespace, so they fit if the run is quiet and no key is a multi-line string */
     bool fits = deckmarten_is_quiet(deckmarten_run_of_text(answer), events, event_words);
+    for (size_t i = 0; i < answer.events; i++) fits &= !is_multi_line_key(events + DECKMARTEN_SIZE_EVENT * i);
     const char *verdict = answer.refusal ? "refused" : fits ? "fits" : "does not fit";
     printf("%s: %s; base %u, records %zu, events %zu, errors %zu\n", name, verdict, answer.base, answer.records,
            answer.events, answer.errors);
@@ -40,6 +48,10 @@ static bool show(const char *name) {
         printf("\n");
     }
     for (size_t i = 0; i < answer.errors; i++) show_error(errors + DECKMARTEN_SIZE_ERROR * i);
+    for (size_t i = 0; i < answer.events; i++) {
+        const uint32_t *event = events + DECKMARTEN_SIZE_EVENT * i;
+        if (is_multi_line_key(event)) printf("  at %u..%u: a multi-line string is no key\n", event[2], event[3]);
+    }
     free(text);
     free(records);
     free(events);

@@ -1,5 +1,6 @@
-//! Whether a token list fits the token grammar of document 01, by a recogniser that has
-//! nothing in common with the parser.
+//! Whether a token list fits the token grammar of document 01, with the key parts of
+//! TOML 1.0.0 or with any string as key part, by a recogniser that has nothing in common
+//! with the parser.
 //!
 //! Each function takes the set of places at which its construct may begin and answers
 //! the set of places at which it may have ended, so that every reading is followed.
@@ -18,9 +19,23 @@ pub fn is_regular(kinds: &[TokenKind]) -> bool {
             .all(|pair| pair != [Whitespace, Whitespace])
 }
 
+/// The key parts of TOML 1.0.0: bare, literal and basic.
+const PARTS: &[TokenKind] = &[Atom, LiteralString, BasicString];
+/// Document 01's: any string.
+const WIDE_PARTS: &[TokenKind] = &[Atom, LiteralString, BasicString, MlLiteralString, MlBasicString];
+
 /// Whether the list is a document: lines that end in Newline, the last in the final Eof.
 pub fn is_document(kinds: &[TokenKind]) -> bool {
-    let list = List(kinds);
+    is_document_with(kinds, PARTS)
+}
+
+/// Whether it is one where a key may be a multi-line string.
+pub fn is_wide_document(kinds: &[TokenKind]) -> bool {
+    is_document_with(kinds, WIDE_PARTS)
+}
+
+fn is_document_with(kinds: &[TokenKind], parts: &[TokenKind]) -> bool {
+    let list = List { kinds, parts };
     let mut lines = vec![0];
     while !lines.is_empty() {
         let ends = list.line(&lines);
@@ -61,12 +76,15 @@ fn repeated(first: Places, more: impl Fn(&Places) -> Places) -> Places {
     all
 }
 
-struct List<'k>(&'k [TokenKind]);
+struct List<'k> {
+    kinds: &'k [TokenKind],
+    parts: &'k [TokenKind],
+}
 
 impl List<'_> {
     /// The places behind a token of this kind.
     fn behind(&self, places: &Places, kind: TokenKind) -> Places {
-        let stands = |place: &&usize| self.0.get(**place) == Some(&kind);
+        let stands = |place: &&usize| self.kinds.get(**place) == Some(&kind);
         places
             .iter()
             .filter(stands)
@@ -105,8 +123,7 @@ impl List<'_> {
     }
 
     fn part(&self, places: &Places) -> Places {
-        let strings = [LiteralString, BasicString, MlLiteralString, MlBasicString];
-        either(self.behind(places, Atom), self.behind_one(places, &strings))
+        self.behind_one(places, self.parts)
     }
 
     fn pair(&self, places: &Places) -> Places {
@@ -195,10 +212,14 @@ mod tests {
     use super::*;
     use crate::Source;
 
-    fn fits(text: &str) -> bool {
+    fn kinds(text: &str) -> Vec<TokenKind> {
         let kinds: Vec<TokenKind> = Source::new(text).lex().map(|token| token.kind()).collect();
         assert!(is_regular(&kinds), "{text:?}");
-        is_document(&kinds)
+        kinds
+    }
+
+    fn fits(text: &str) -> bool {
+        is_document(&kinds(text))
     }
 
     #[test]
@@ -207,7 +228,8 @@ mod tests {
             "",
             "\n \n# c\n",
             "a=1",
-            " a . \"b\" . '''c''' = 1 2.5 # c",
+            " a . \"b\" . 'c' = 1 2.5 # c",
+            "a='''b'''\nc=[\"\"\"d\"\"\"]",
             "[a]\n[[ b . c ]] # c\n",
             "x=[]\ny=[ 1 , [2,], {}, # c\n\n]\n",
             "x={ a = 1, b = [{c.d='e'}] }",
@@ -252,6 +274,19 @@ mod tests {
             "a='b''c'",
         ] {
             assert!(!fits(text), "{text:?}");
+        }
+    }
+
+    #[test]
+    fn a_multi_line_string_is_a_key_of_the_wide_grammar_alone() {
+        for text in [
+            "''''''=a",
+            "[\"\"\"\"\"\"]",
+            "x={\"\"\"k\"\"\"=1}",
+            "a.'''k'''=1",
+            "[[a.'''k''']]",
+        ] {
+            assert!(!fits(text) && is_wide_document(&kinds(text)), "{text:?}");
         }
     }
 

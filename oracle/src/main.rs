@@ -95,7 +95,7 @@ fn list_text(bytes: &[u8]) -> Result<(), String> {
     put(listing(&answer, &events, &errors).as_bytes())
 }
 
-/// Of texts in hexadecimal, a line each: `quiet`, `not quiet`, or `refused N place P`.
+/// Of texts in hexadecimal, a line each: `fits`, `does not fit`, or `refused N place P`.
 fn answer_texts() -> Result<(), String> {
     let mut out = std::io::BufWriter::new(std::io::stdout().lock());
     for line in std::io::stdin().lock().lines() {
@@ -103,8 +103,8 @@ fn answer_texts() -> Result<(), String> {
         let text = texts::judge(&batch::bytes([format!("x:{line}").as_str()])?)?;
         let verdict = text.verdict(usize::MAX, usize::MAX);
         let said = match (verdict.refusal, verdict.fits) {
-            (0, true) => "quiet".to_string(),
-            (0, false) => "not quiet".to_string(),
+            (0, true) => "fits".to_string(),
+            (0, false) => "does not fit".to_string(),
             (refusal, _) => format!("refused {refusal} place {}", verdict.place),
         };
         writeln!(out, "{said}").map_err(|e| e.to_string())?;

@@ -109,17 +109,20 @@ pub fn judge(text: &[u8]) -> Result<Text, String> {
     })
 }
 
-/// Whether a list that document.rs has read fits; an error if it is regular and the
-/// run is quiet without fitting, or fits without being quiet. A list that is refused
-/// does not count as fitting.
+/// Whether a list that document.rs has read fits; an error if it is regular and not quiet
+/// exactly where it fits the wide grammar, or not quiet with no multi-line key exactly
+/// where it fits. A list that is refused does not count as fitting.
 pub fn fits(kinds: &[TokenKind], judged: &Judged) -> Result<bool, String> {
     let Judged::Walked(lists, None) = judged else {
         return Ok(false);
     };
     let regular = grammar::is_regular(kinds);
     let fits = regular && grammar::is_document(kinds);
-    if regular && fits != lists.is_quiet() {
-        return Err(format!("quiet is not fitting: {kinds:?}"));
+    if regular && grammar::is_wide_document(kinds) != lists.is_quiet() {
+        return Err(format!("quiet is not fitting the wide grammar: {kinds:?}"));
+    }
+    if regular && fits != (lists.is_quiet() && !lists.has_multi_line_key()) {
+        return Err(format!("quiet with no multi-line key is not fitting: {kinds:?}"));
     }
     Ok(fits)
 }

@@ -62,6 +62,13 @@ impl Lists {
     pub fn is_quiet(&self) -> bool {
         self.errors.is_empty() && self.events.iter().all(|event| event[2] != event[3])
     }
+
+    /// Whether a key is a multi-line string: a simple_key event with encoding 3 or 4.
+    pub fn has_multi_line_key(&self) -> bool {
+        self.events
+            .iter()
+            .any(|event| event[0] == 5 && [3, 4].contains(&event[1]))
+    }
 }
 
 /// The unchanged original over these tokens.

@@ -11,8 +11,8 @@ use deckmarten::{Refused, Room};
 /// Shows one text and answers whether it fits.
 fn show(room: &mut Room, name: &str, text: &[u8]) -> bool {
     let answer = room.parse_text(text);
-    // a text's records end in one Eof and have no adjacent Whitespace, so quiet means that they fit
-    let fits = answer.is_quiet();
+    // a text's records end in one Eof and have no adjacent Whitespace, so they fit if the run is quiet and no key is a multi-line string
+    let fits = answer.is_quiet() && !answer.events().any(|event| event.is_multi_line_key());
     match answer.refusal() {
         Some(refusal) => println!("{name}: refused: {}", Refused { refusal, place: answer.place() }),
         None => println!("{name}: {}", if fits { "fits" } else { "does not fit" }),
@@ -22,6 +22,9 @@ fn show(room: &mut Room, name: &str, text: &[u8]) -> bool {
     }
     for error in answer.errors() {
         println!("  {error}");
+    }
+    for key in answer.events().filter(|event| event.is_multi_line_key()) {
+        println!("  a multi-line string is no key at {}", key.span);
     }
     fits
 }

@@ -71,6 +71,12 @@ pub struct Event {
 }
 
 impl Event {
+    /// Whether it is a key part that is a multi-line string. No error says so, but TOML 1.0.0 has no such key, and a text that has one does not fit.
+    #[must_use]
+    pub fn is_multi_line_key(&self) -> bool {
+        self.kind == EventKind::SimpleKey && matches!(self.encoding, Some(Encoding::MlLiteralString | Encoding::MlBasicString))
+    }
+
     pub(crate) fn read(words: &[u32]) -> Event {
         Event {
             kind: EventKind::from_number(words[0]).expect("an event has a kind of 1 to 17"),

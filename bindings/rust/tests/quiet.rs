@@ -24,6 +24,18 @@ fn lists_without_an_error_report_need_not_fit() {
 }
 
 #[test]
+fn multi_line_keys_do_not_fit_even_if_quiet() {
+    let mut room = Room::new();
+    for (text, keys) in [("[B]$", 1), ("L=a$", 1), ("a.L=a\nB=a$", 2), ("a={B=a}$", 1), ("a=[B,L]$", 0)] {
+        let records = records(text);
+        let answer = room.parse(Entry::Document, records.as_bytes(), 0);
+        assert!(answer.is_quiet(), "{text:?}");
+        assert_eq!(answer.events().filter(|event| event.is_multi_line_key()).count(), keys, "{text:?}");
+        assert_eq!(fits(records.as_bytes(), 0).is_yes(), keys == 0, "{text:?}");
+    }
+}
+
+#[test]
 fn irregular_lists_do_not_fit_even_if_quiet() {
     let mut room = Room::new();
     for text in ["", "a", "a=1", "a=1\n", "$$", "$$b", "a=1$b=2$", "  $"] {

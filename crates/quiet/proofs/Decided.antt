@@ -1,5 +1,5 @@
 -- A test's answer that is true exactly when a statement holds. Proved; nothing here needs to be believed.
-use mathlib.Core.Path.{_≡_, refl}
+use mathlib.Core.Path.{_≡_, refl, sym, _∙_}
 use mathlib.Core.Bool.{Bool, true, false, false≢true}
 use mathlib.Core.Logic.{_↔_}
 
@@ -15,3 +15,10 @@ decided-once true true p q = refl
 decided-once true false p q = absurd (false≢true (q .1 (p .0 refl)))
 decided-once false true p q = absurd (false≢true (p .1 (q .0 refl)))
 decided-once false false p q = refl
+
+-- two statements, the second asked where the first holds
+pub decided-both : {A B : Type 0} {b c : Bool} → (b ≡ true) ↔ A → b ≡ true → (c ≡ true) ↔ B → (c ≡ true) ↔ (A × B)
+decided-both p e q = (λ t. (p .0 e, q .0 t), λ h. q .1 (h .1))
+
+pub decided-neither : {A B : Type 0} {b : Bool} → (b ≡ true) ↔ A → b ≡ false → (false ≡ true) ↔ (A × B)
+decided-neither p e = decided-no (λ h. false≢true (sym e ∙ p .1 (h .0)))

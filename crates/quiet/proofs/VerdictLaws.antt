@@ -18,12 +18,12 @@ use Rattle.rules.specs.Limits.{maxDepth}
 use Rattle.rules.specs.declared.answer.Answer.{Answer}
 use Rattle.rules.specs.Entries.{documentEntry}
 use Rattle.rules.specs.Answer.{eventSize, Outcome, outcomeBy, outcome}
-use Rattle.rules.specs.Quiet.{QuietRun}
+use Rattle.rules.specs.Quiet.{QuietRun, NoMultiLineKey}
 use Rattle.rules.specs.Grammar.{FitsWithin}
 use Rattle.rules.specs.Premises.{Regular, Ready, documentRun}
 use Rattle.grammar.specs.Answers.{Answers}
 use Rattle.quiet.specs.declared.verdict.Verdict.{Verdict}
-use Rattle.quiet.specs.Runs.{QuietAnswer}
+use Rattle.quiet.specs.Runs.{QuietAnswer, SingleLineAnswer}
 use Rattle.quiet.specs.Verdicts.{Sound, Roomy, unjudged, shortOfRoom, refusalOf, placeOf, Judges, Judgement, DeterminedVerdict, Judged}
 use Rattle.quiet.proofs.Decided.{decided-no, decided-once}
 
@@ -36,13 +36,17 @@ determined s base events x y p q =
     let left = p .left ∙ sym (q .left) in
     λ i. record { verdict = record { fits = fits i; refusal = refusal i; place = place i }; events = left i }
 
+-- of a run: it is quiet, and no key is a multi-line string
+abbrev Clean : Outcome → Type 0
+Clean o = QuietRun o × NoMultiLineKey o
+
 -- what the theorems about the rules say of the run
 abbrev pub FitsThenQuiet : List ℕ → ℕ → List ℕ → Type 0
 FitsThenQuiet s base events =
-    checked s base ≡ Checked.Passed → Regular (allTokens s base) → length (allTokens s base) ≤ length events / eventSize → FitsWithin maxDepth (allTokens s base) → QuietRun (documentRun s base events [])
+    checked s base ≡ Checked.Passed → Regular (allTokens s base) → length (allTokens s base) ≤ length events / eventSize → FitsWithin maxDepth (allTokens s base) → Clean (documentRun s base events [])
 
 pub record Cited (s : List ℕ) (base : ℕ) (events : List ℕ) : Type 0 where
-  pub within : Ready s base events [] → QuietRun (documentRun s base events []) ↔ FitsWithin maxDepth (allTokens s base)
+  pub within : Ready s base events [] → Clean (documentRun s base events []) ↔ FitsWithin maxDepth (allTokens s base)
   pub quiet : FitsThenQuiet s base events
 
 -- a quiet run has passed the check
@@ -54,13 +58,13 @@ quiet-passed : (s : List ℕ) (base : ℕ) (events : List ℕ) → QuietRun (doc
 unfolding outcome
 quiet-passed s base events q = passed-by (checked s base) s base events refl q
 
--- the run is quiet exactly when the list is sound, if it is regular and there is room
-quiet-sound : (s : List ℕ) (base : ℕ) (events : List ℕ) → Cited s base events → Regular (allTokens s base) → QuietRun (documentRun s base events []) → Sound s base
+-- the run is quiet without a multi-line key exactly when the list is sound, if it is regular and there is room
+quiet-sound : (s : List ℕ) (base : ℕ) (events : List ℕ) → Cited s base events → Regular (allTokens s base) → Clean (documentRun s base events []) → Sound s base
 quiet-sound s base events t g q =
-    let p = quiet-passed s base events q in
-    record { passed = p; regular = g; fitting = t .within (record { passed = p; regular = g; room = λ e. omega (arith, e, q .accepted) }) .0 q }
+    let p = quiet-passed s base events (q .0) in
+    record { passed = p; regular = g; fitting = t .within (record { passed = p; regular = g; room = λ e. omega (arith, e, q .0 .accepted) }) .0 q }
 
-sound-quiet : (s : List ℕ) (base : ℕ) (events : List ℕ) → FitsThenQuiet s base events → Sound s base → Roomy s events → QuietRun (documentRun s base events [])
+sound-quiet : (s : List ℕ) (base : ℕ) (events : List ℕ) → FitsThenQuiet s base events → Sound s base → Roomy s events → Clean (documentRun s base events [])
 sound-quiet s base events t o h = t (o .passed) (o .regular) (omega (arith, h, all-length s base)) (o .fitting)
 
 -- from here on `answer` is the run's, and `after` and `errors` the buffers behind it
@@ -72,15 +76,15 @@ module _ (s : List ℕ) (base : ℕ) (events after errors : List ℕ) (answer : 
   ran = ap (λ (o : Outcome). o .answer) is
 
   -- the error words do not matter
-  answer-run : QuietAnswer answer after → QuietRun run
+  answer-run : (QuietAnswer answer after × SingleLineAnswer answer after) → Clean run
   answer-run q =
-      let here : QuietRun (record { answer = answer; events = after; errors = errors }) = record { accepted = q .accepted; errorless = q .errorless; nonempty = q .nonempty } in
-      subst QuietRun is here
+      let here : QuietRun (record { answer = answer; events = after; errors = errors }) = record { accepted = q .0 .accepted; errorless = q .0 .errorless; nonempty = q .0 .nonempty } in
+      subst Clean is (here, q .1)
 
-  run-answer : QuietRun run → QuietAnswer answer after
+  run-answer : Clean run → QuietAnswer answer after × SingleLineAnswer answer after
   run-answer r =
-      let here : QuietRun (record { answer = answer; events = after; errors = errors }) = subst QuietRun (sym is) r in
-      record { accepted = here .accepted; errorless = here .errorless; nonempty = here .nonempty }
+      let here : Clean (record { answer = answer; events = after; errors = errors }) = subst Clean (sym is) r in
+      (record { accepted = here .0 .accepted; errorless = here .0 .errorless; nonempty = here .0 .nonempty }, here .1)
 
   judged : (f not short : Bool) → (f ≡ true) ↔ (Sound s base × Roomy s events) → unjudged (answer .refusal) ≡ not → ltb (length events / eventSize) (count s) ≡ short
       → Judges s base events after (record { fits = f; refusal = cond not (answer .refusal) (shortOfRoom short); place = cond not (answer .place) 0 })
@@ -96,7 +100,7 @@ module _ (s : List ℕ) (base : ℕ) (events after errors : List ℕ) (answer : 
   pub not-judged : unjudged (answer .refusal) ≡ true → Judges s base events after (record { fits = false; refusal = answer .refusal; place = answer .place })
   not-judged u =
       judged false true (ltb (length events / eventSize) (count s))
-      (decided-no (λ h. false≢true (sym (ap unjudged (run-answer (sound-quiet s base events (cited .quiet) (h .0) (h .1)) .accepted)) ∙ u))) u refl
+      (decided-no (λ h. false≢true (sym (ap unjudged (run-answer (sound-quiet s base events (cited .quiet) (h .0) (h .1)) .0 .accepted)) ∙ u))) u refl
 
   -- too little room
   pub too-little : unjudged (answer .refusal) ≡ false → length events / eventSize < count s → Judges s base events after (record { fits = false; refusal = 7; place = 0 })
@@ -106,7 +110,7 @@ module _ (s : List ℕ) (base : ℕ) (events after errors : List ℕ) (answer : 
     pub irregular : (Regular (allTokens s base) → ⊥) → Judges s base events after (record { fits = false; refusal = 0; place = 0 })
     irregular n = judged false false false (decided-no (λ o. n (o .0 .regular))) u (le-ltb _ _ room)
 
-    pub by-the-run : (r : Bool) → Regular (allTokens s base) → (r ≡ true) ↔ QuietAnswer answer after → Judges s base events after (record { fits = r; refusal = 0; place = 0 })
+    pub by-the-run : (r : Bool) → Regular (allTokens s base) → (r ≡ true) ↔ (QuietAnswer answer after × SingleLineAnswer answer after) → Judges s base events after (record { fits = r; refusal = 0; place = 0 })
     by-the-run r g d =
         judged r false false
         (λ t. (quiet-sound s base events cited g (answer-run (d .0 t)), room), λ o. d .1 (run-answer (sound-quiet s base events (cited .quiet) (o .0) (o .1))))
@@ -126,6 +130,6 @@ judges-decided s base events after v t j =
       decides = λ z. let room = ltb-false _ _ (judged-by run (unjudged (run .refusal)) short refl (sym (j .refusal) ∙ z) .1) in (λ y. j .yes .0 y .0, λ o. j .yes .1 (o, room));
       accepted = λ y.
           let o = j .yes .0 y in
-          let q = sound-quiet s base events t (o .0) (o .1) in
+          let q = sound-quiet s base events t (o .0) (o .1) .0 in
           j .refusal ∙ (λ i. cond (unjudged (q .accepted i)) (q .accepted i) (shortOfRoom (le-ltb (length events / eventSize) (count s) (o .1) i)));
     }

@@ -1,5 +1,5 @@
 // The yes for records that are known to pass the check and to be regular: a caller that wrote them itself has shown it, and neither is asked again.
-use crate::run::is_quiet;
+use crate::keys::is_quiet_without_multi_line_key;
 use crate::verdict::Verdict;
 use crate::verdict::answered;
 use crate::verdict::is_unjudged;
@@ -31,6 +31,6 @@ pub fn judge(records: &[u8], base: u32, events: &mut [u32]) -> Verdict
     if events.len() / 4 < records.len() / 6 {
         return answered(false, 7, 0);
     }
-    let quiet = is_quiet(answer, events);
+    let quiet = is_quiet_without_multi_line_key(answer, events);
     answered(quiet, 0, 0)
 }

@@ -6,12 +6,17 @@ ghost use mathlib.Core.List.{List};
 ghost use Rattle.token.specs.Tokens.{allTokens};
 ghost use Rattle.rules.specs.Premises.{Regular};
 ghost use Rattle.quiet.specs.declared.verdict.Verdict.{Verdict};
-ghost use Rattle.quiet.specs.Runs.{QuietAnswer};
+ghost use Rattle.quiet.specs.Runs.{QuietAnswer, SingleLineAnswer};
 ghost use Rattle.quiet.specs.Verdicts.{DeterminedTest, DeterminedVerdict, Judges, Judged};
 
 // Two answers of `is_quiet` that both meet its contract for the same input are equal.
 pub fn quiet_is_determined(answer: Answer, events: &[u32])
     ensures { λ _. ⌜ DeterminedTest (QuietAnswer answer (now (events .entry))) ⌝ }
+{}
+
+// Two of `has_no_multi_line_key`.
+pub fn keys_are_determined(answer: Answer, events: &[u32])
+    ensures { λ _. ⌜ DeterminedTest (SingleLineAnswer answer (now (events .entry))) ⌝ }
 {}
 
 // Two of `is_regular`.

@@ -1,6 +1,6 @@
 // The yes: whether a list of token records is good to act on.
+use crate::keys::is_quiet_without_multi_line_key;
 use crate::regular::is_regular;
-use crate::run::is_quiet;
 use grammar::entries::parse_document;
 use rules::theorems::fits_then_quiet;
 use rules::theorems::quiet_exactly_when_fits_within;
@@ -34,7 +34,7 @@ pub fn answered(fits: bool, refusal: u32, place: usize) -> Verdict
     }
 }
 
-// The document entry is run with no room for errors: a list with an error does not fit. Room for as many events as there are records is
+// The document entry is run with no room for errors: a list with an error does not fit, nor does one with a multi-line key. Room for as many events as there are records is
 // wanted, which is as many as a list that fits can have; where there is less, the list is not judged, and that is refusal 7.
 pub fn fits(records: &[u8], base: u32, events: &mut [u32]) -> Verdict
     ensures { λ v. ⌜ Judges (now (records .entry)) base (now (events .entry)) (now (events .exit)) v ⌝ }
@@ -53,7 +53,7 @@ pub fn fits(records: &[u8], base: u32, events: &mut [u32]) -> Verdict
     }
     let regular = is_regular(records, base);
     if regular {
-        let quiet = is_quiet(answer, events);
+        let quiet = is_quiet_without_multi_line_key(answer, events);
         return answered(quiet, 0, 0);
     }
     answered(false, 0, 0)

@@ -12,7 +12,7 @@ use Rattle.rules.specs.declared.array.ArrayState.{ArrayState}
 use Rattle.rules.specs.Out.{Place, Out}
 use Rattle.rules.specs.Turns.{turns}
 use Rattle.rules.specs.Array.{inArray, Nest, arrayStep, arrayTurn}
-use Rattle.rules.specs.Grammar.{literal, basic, multiLineLiteral, multiLineBasic, itIsDot, itIsAtom, aString, unquotedScalar, Inside, Value, aScalar, anArray, anInlineTable, Gap, gapEnds, whitespaceInGap, newlineInGap, commentInGap, ArrayValues, lastValue, trailingComma, moreValues, ArrayInside, noValues, someValues}
+use Rattle.rules.specs.Grammar.{Parts, literal, basic, multiLineLiteral, multiLineBasic, itIsDot, itIsAtom, aString, unquotedScalar, Inside, Value, aScalar, anArray, anInlineTable, Gap, gapEnds, whitespaceInGap, newlineInGap, commentInGap, ArrayValues, lastValue, trailingComma, moreValues, ArrayInside, noValues, someValues}
 use Rattle.rules.specs.Premises.{OpenBracket, openArray}
 use Rattle.rules.proofs.Reading.{readsComma, readsArrayClose, readsWhitespace, readsNewline, readsComment, readsString, Walk, walk-done, walk-one, walk-then}
 use Rattle.rules.proofs.Suffixes.{suffix-length, suffix-unquoted, NestSuffix}
@@ -24,15 +24,15 @@ openingKind Bracket.Square = LeftSquareBracket
 openingKind Bracket.Curly = LeftCurlyBracket
 
 -- a walk over what brackets hold reads it, with its bracket
-abbrev pub NestWalk : Inside → Nest → Type 0
-NestWalk N nest = (σ : List OpenBracket) (r : Bracket) (a b : ℕ) (ts rest : List Tok) → N r ts rest → Walk (nest r a b ts) (tok (openingKind r) a b ∷ ts) rest σ σ
+abbrev pub NestWalk : Parts → Inside → Nest → Type 0
+NestWalk P N nest = (σ : List OpenBracket) (r : Bracket) (a b : ℕ) (ts rest : List Tok) → N r ts rest → Walk P (nest r a b ts) (tok (openingKind r) a b ∷ ts) rest σ σ
 
-module _ (N : Inside) (head : Place) (nest : Nest) (nested : NestSuffix N) (walks : NestWalk N nest) (σ : List OpenBracket) where
+module _ (P : Parts) (N : Inside) (head : Place) (nest : Nest) (nested : NestSuffix N) (walks : NestWalk P N nest) (σ : List OpenBracket) where
   -- the walk from here in a state, whatever turns are left if they are enough
   abbrev ArrayWalk : ArrayState → List Tok → List Tok → Type 0
-  ArrayWalk st ts rest = (n : ℕ) → length ts ≤ n → Walk (turns (arrayTurn head nest) n st ts) ts rest (openArray ∷ σ) σ
+  ArrayWalk st ts rest = (n : ℕ) → length ts ≤ n → Walk P (turns (arrayTurn head nest) n st ts) ts rest (openArray ∷ σ) σ
 
-  turn : (st : ArrayState) (k : Kind) {a b : ℕ} {ts rest : List Tok} → ((n : ℕ) → length ts ≤ n → Walk (arrayStep (inArray k) k head nest (turns (arrayTurn head nest) n) st a b ts) (tok k a b ∷ ts) rest (openArray ∷ σ) σ) → ArrayWalk st (tok k a b ∷ ts) rest
+  turn : (st : ArrayState) (k : Kind) {a b : ℕ} {ts rest : List Tok} → ((n : ℕ) → length ts ≤ n → Walk P (arrayStep (inArray k) k head nest (turns (arrayTurn head nest) n) st a b ts) (tok k a b ∷ ts) rest (openArray ∷ σ) σ) → ArrayWalk st (tok k a b ∷ ts) rest
   unfolding turns
   turn st k f zero h = absurd (not-suc-le-zero h)
   turn st k f (suc n) h = f n (le-of-suc-le-suc h)

@@ -9,7 +9,7 @@ use Rattle.rules.specs.declared.event.Encoding.{Encoding}
 use Rattle.rules.specs.declared.scalar.InScalar.{InScalar}
 use Rattle.rules.specs.Out.{Out, done, _▹_}
 use Rattle.rules.specs.Scalar.{inScalar, unquotedStep, spaceStep, unquoted, behindSpace}
-use Rattle.rules.specs.Grammar.{OptWhitespace, noWhitespace, aWhitespace, DotOrAtom, itIsDot, itIsAtom, UnquotedRest, scalarEnds, dotOrAtom, whitespaceAtom, Gap, gapEnds, whitespaceInGap, newlineInGap, commentInGap}
+use Rattle.rules.specs.Grammar.{Parts, OptWhitespace, noWhitespace, aWhitespace, DotOrAtom, itIsDot, itIsAtom, UnquotedRest, scalarEnds, dotOrAtom, whitespaceAtom, Gap, gapEnds, whitespaceInGap, newlineInGap, commentInGap}
 use Rattle.rules.specs.Premises.{OpenBracket, scalarEnd}
 use Rattle.rules.proofs.Reading.{readNone, readUnquoted, Walk}
 use Rattle.rules.specs.Receiver as receiver
@@ -57,5 +57,5 @@ unquoted-reads a b (dotOrAtom {b = d} itIsDot r) h = unquoted-reads a d r h
 unquoted-reads a b (dotOrAtom {b = d} itIsAtom r) h = unquoted-reads a d r h
 unquoted-reads a b (whitespaceAtom {d = d} r) h = unquoted-reads a d r h
 
-pub unquoted-walk : {σ : List OpenBracket} {k : Kind} {a b : ℕ} {ts rest : List Tok} → DotOrAtom k → UnquotedRest ts rest → ScalarStops rest → Walk (unquoted ts a b) (tok k a b ∷ ts) rest σ σ
-unquoted-walk {σ} {k} {a} {b} {ts} {rest} d r h = subst (λ o. Walk o (tok k a b ∷ ts) rest σ σ) (sym (unquoted-reads a b r h)) (readUnquoted d r refl readNone, refl)
+pub unquoted-walk : {P : Parts} {σ : List OpenBracket} {k : Kind} {a b : ℕ} {ts rest : List Tok} → DotOrAtom k → UnquotedRest ts rest → ScalarStops rest → Walk P (unquoted ts a b) (tok k a b ∷ ts) rest σ σ
+unquoted-walk {P} {σ} {k} {a} {b} {ts} {rest} d r h = subst (λ o. Walk P o (tok k a b ∷ ts) rest σ σ) (sym (unquoted-reads a b r h)) (readUnquoted d r refl readNone, refl)

@@ -17,7 +17,7 @@ use Rattle.rules.specs.Keys.{optDotKeys, simpleKey}
 use Rattle.rules.specs.Array.{Nest}
 use Rattle.rules.specs.InlineTable.{actionOf, progress, encodingAt, inlineTableStep, inlineTableTurn}
 use Rattle.rules.specs.Nest.{onOpen}
-use Rattle.rules.specs.Grammar.{OptWhitespace, noWhitespace, aWhitespace, literal, basic, multiLineLiteral, multiLineBasic, KeyPart, atomPart, stringPart, Dots, aKey, itIsDot, itIsAtom, aString, unquotedScalar, Inside, Value, aScalar, anArray, anInlineTable, Pair, aPair, Pairs, lastPair, morePairs, TableInside, noPairs, somePairs, Nested}
+use Rattle.rules.specs.Grammar.{OptWhitespace, noWhitespace, aWhitespace, literal, basic, multiLineLiteral, multiLineBasic, Parts, KeyPart, atomPart, stringPart, Dots, aKey, itIsDot, itIsAtom, aString, unquotedScalar, Inside, Value, aScalar, anArray, anInlineTable, Pair, aPair, Pairs, lastPair, morePairs, TableInside, noPairs, somePairs, Nested}
 use Rattle.rules.specs.Premises.{OpenBracket, openInlineTable}
 use Rattle.rules.proofs.Reading.{readsEquals, readsComma, readsArrayOpen, readsInlineTableOpen, readsInlineTableClose, readsWhitespace, readsKey, readsString, Walk, walk-done, walk-one, walk-then}
 use Rattle.rules.proofs.Suffixes.{suffix-trans, suffix-length, suffix-unquoted, suffix-whitespace, suffix-dots, NestSuffix, suffix-nested}
@@ -26,12 +26,12 @@ use Rattle.rules.proofs.FitsQuietScalars.{ScalarStops, whitespace-stops
 use Rattle.rules.proofs.FitsQuietArrays.{NestWalk, array-walk}
 use Rattle.rules.specs.Receiver as receiver
 
-module _ (N : Inside) (head : Place) (nest : Nest) (nested : NestSuffix N) (walks : NestWalk N nest) (σ : List OpenBracket) where
+module _ (P : Parts) (N : Inside) (head : Place) (nest : Nest) (nested : NestSuffix N) (walks : NestWalk P N nest) (σ : List OpenBracket) where
   -- the walk from here, whatever turns are left if they are enough
   abbrev TableWalk : State → Bool → List Tok → List Tok → Type 0
-  TableWalk st empty ts rest = (n : ℕ) → length ts ≤ n → Walk (turns (inlineTableTurn head nest) n (progress st empty) ts) ts rest (openInlineTable ∷ σ) σ
+  TableWalk st empty ts rest = (n : ℕ) → length ts ≤ n → Walk P (turns (inlineTableTurn head nest) n (progress st empty) ts) ts rest (openInlineTable ∷ σ) σ
 
-  turn : (st : State) (empty : Bool) (k : Kind) {a b : ℕ} {ts rest : List Tok} → ((n : ℕ) → length ts ≤ n → Walk (inlineTableStep (actionOf st k) k head nest (turns (inlineTableTurn head nest) n) st empty a b ts) (tok k a b ∷ ts) rest (openInlineTable ∷ σ) σ) → TableWalk st empty (tok k a b ∷ ts) rest
+  turn : (st : State) (empty : Bool) (k : Kind) {a b : ℕ} {ts rest : List Tok} → ((n : ℕ) → length ts ≤ n → Walk P (inlineTableStep (actionOf st k) k head nest (turns (inlineTableTurn head nest) n) st empty a b ts) (tok k a b ∷ ts) rest (openInlineTable ∷ σ) σ) → TableWalk st empty (tok k a b ∷ ts) rest
   unfolding turns
   turn st empty k f zero h = absurd (not-suc-le-zero h)
   turn st empty k f (suc n) h = f n (le-of-suc-le-suc h)
@@ -50,16 +50,16 @@ module _ (N : Inside) (head : Place) (nest : Nest) (nested : NestSuffix N) (walk
   space-walk st empty noWhitespace w = w
   space-walk st empty aWhitespace w = space-turn st empty w
 
-  dots-then : {k : Kind} {a b c d : ℕ} {ts mid vs rest : List Tok} (p : KeyPart k) → Dots ts mid → OptWhitespace mid (tok Equals a b ∷ vs) → TableWalk State.NeedsEquals false (tok Equals a b ∷ vs) rest → (n : ℕ) → length ts ≤ n
-      → Walk (receiver.simpleKey (encodingAt k) c d ▹ (optDotKeys ts then go State.NeedsEquals n)) (tok k c d ∷ ts) rest (openInlineTable ∷ σ) σ
+  dots-then : {k : Kind} {a b c d : ℕ} {ts mid vs rest : List Tok} (p : KeyPart P k) → Dots P ts mid → OptWhitespace mid (tok Equals a b ∷ vs) → TableWalk State.NeedsEquals false (tok Equals a b ∷ vs) rest → (n : ℕ) → length ts ≤ n
+      → Walk P (receiver.simpleKey (encodingAt k) c d ▹ (optDotKeys ts then go State.NeedsEquals n)) (tok k c d ∷ ts) rest (openInlineTable ∷ σ) σ
   dots-then p d v w n h = walk-one (readsKey p) (walk-then (go State.NeedsEquals n) (dots-walk d v equalsAfterKey) (w n (le-trans (suffix-length (suffix-trans (suffix-dots d) (suffix-whitespace v))) h)))
 
-  key-walks : (empty : Bool) {k : Kind} {a b c d : ℕ} {ts mid vs rest : List Tok} → KeyPart k → Dots ts mid → OptWhitespace mid (tok Equals a b ∷ vs) → TableWalk State.NeedsEquals false (tok Equals a b ∷ vs) rest → TableWalk State.NeedsKey empty (tok k c d ∷ ts) rest
-  key-walks empty atomPart d v w = turn State.NeedsKey empty Atom (dots-then atomPart d v w)
-  key-walks empty (stringPart literal) d v w = turn State.NeedsKey empty LiteralString (dots-then (stringPart literal) d v w)
-  key-walks empty (stringPart basic) d v w = turn State.NeedsKey empty BasicString (dots-then (stringPart basic) d v w)
-  key-walks empty (stringPart multiLineLiteral) d v w = turn State.NeedsKey empty MlLiteralString (dots-then (stringPart multiLineLiteral) d v w)
-  key-walks empty (stringPart multiLineBasic) d v w = turn State.NeedsKey empty MlBasicString (dots-then (stringPart multiLineBasic) d v w)
+  key-walks : (empty : Bool) {k : Kind} {a b c d : ℕ} {ts mid vs rest : List Tok} → KeyPart P k → Dots P ts mid → OptWhitespace mid (tok Equals a b ∷ vs) → TableWalk State.NeedsEquals false (tok Equals a b ∷ vs) rest → TableWalk State.NeedsKey empty (tok k c d ∷ ts) rest
+  key-walks empty (atomPart l) d v w = turn State.NeedsKey empty Atom (dots-then (atomPart l) d v w)
+  key-walks empty (stringPart literal l) d v w = turn State.NeedsKey empty LiteralString (dots-then (stringPart literal l) d v w)
+  key-walks empty (stringPart basic l) d v w = turn State.NeedsKey empty BasicString (dots-then (stringPart basic l) d v w)
+  key-walks empty (stringPart multiLineLiteral l) d v w = turn State.NeedsKey empty MlLiteralString (dots-then (stringPart multiLineLiteral l) d v w)
+  key-walks empty (stringPart multiLineBasic l) d v w = turn State.NeedsKey empty MlBasicString (dots-then (stringPart multiLineBasic l) d v w)
 
   value-walk : {ts us rest : List Tok} → Value N ts us → ScalarStops us → TableWalk State.NeedsComma false us rest → TableWalk State.NeedsValue false ts rest
   value-walk (aScalar (aString literal)) s w = turn State.NeedsValue false LiteralString (λ n h. walk-one (readsString literal) (w n h))
@@ -71,20 +71,20 @@ module _ (N : Inside) (head : Place) (nest : Nest) (nested : NestSuffix N) (walk
   value-walk (anArray {a = a} {b = b} m) s w = turn State.NeedsValue false LeftSquareBracket (λ n h. walk-then (go State.NeedsComma n) (walks _ Bracket.Square a b _ _ m) (w n (le-trans (suffix-length (nested _ _ _ m)) h)))
   value-walk (anInlineTable {a = a} {b = b} m) s w = turn State.NeedsValue false LeftCurlyBracket (λ n h. walk-then (go State.NeedsComma n) (walks _ Bracket.Curly a b _ _ m) (w n (le-trans (suffix-length (nested _ _ _ m)) h)))
 
-  pair-walk : (empty : Bool) {ts us rest : List Tok} → Pair N ts us → ScalarStops us → TableWalk State.NeedsComma false us rest → TableWalk State.NeedsKey empty ts rest
+  pair-walk : (empty : Bool) {ts us rest : List Tok} → Pair P N ts us → ScalarStops us → TableWalk State.NeedsComma false us rest → TableWalk State.NeedsKey empty ts rest
   pair-walk empty (aPair (aKey p d) v x y) s w = key-walks empty p d v (turn State.NeedsEquals false Equals (λ n h. walk-one readsEquals (space-walk State.NeedsValue false x (value-walk y s w) n h)))
 
-  pairs-walk : (empty : Bool) {ts rest : List Tok} → Pairs N ts rest → TableWalk State.NeedsKey empty ts rest
+  pairs-walk : (empty : Bool) {ts rest : List Tok} → Pairs P N ts rest → TableWalk State.NeedsKey empty ts rest
   pairs-walk empty (lastPair p v) = pair-walk empty p (whitespace-stops v refl) (space-walk State.NeedsComma false v (turn State.NeedsComma false RightCurlyBracket (λ n h. walk-one readsInlineTableClose (walk-done _))))
   pairs-walk empty (morePairs p v x ps) = pair-walk empty p (whitespace-stops v refl) (space-walk State.NeedsComma false v (turn State.NeedsComma false Comma (λ n h. walk-one readsComma (space-walk State.NeedsKey false x (pairs-walk false ps) n h))))
 
-  pub table-walk : {ts rest : List Tok} → TableInside N ts rest → TableWalk State.NeedsKey true ts rest
+  pub table-walk : {ts rest : List Tok} → TableInside P N ts rest → TableWalk State.NeedsKey true ts rest
   table-walk (noPairs v) = space-walk State.NeedsKey true v (turn State.NeedsKey true RightCurlyBracket (λ n h. walk-one readsInlineTableClose (walk-done _)))
   table-walk (somePairs v ps) = space-walk State.NeedsKey true v (pairs-walk true ps)
 
 -- an opening bracket, with so many levels allowed
-pub open-walk : (levels : ℕ) → NestWalk (Nested levels) (onOpen levels)
+pub open-walk : (P : Parts) (levels : ℕ) → NestWalk P (Nested P levels) (onOpen levels)
 unfolding onOpen Nested
-open-walk zero σ r a b ts rest d = absurd d
-open-walk (suc n) σ Bracket.Square a b ts rest d = walk-one readsArrayOpen (array-walk (Nested n) (span a b) (onOpen n) (suffix-nested n) (open-walk n) σ d (length ts) (le-refl _))
-open-walk (suc n) σ Bracket.Curly a b ts rest d = walk-one readsInlineTableOpen (table-walk (Nested n) (span a b) (onOpen n) (suffix-nested n) (open-walk n) σ d (length ts) (le-refl _))
+open-walk P zero σ r a b ts rest d = absurd d
+open-walk P (suc n) σ Bracket.Square a b ts rest d = walk-one readsArrayOpen (array-walk P (Nested P n) (span a b) (onOpen n) (suffix-nested P n) (open-walk P n) σ d (length ts) (le-refl _))
+open-walk P (suc n) σ Bracket.Curly a b ts rest d = walk-one readsInlineTableOpen (table-walk P (Nested P n) (span a b) (onOpen n) (suffix-nested P n) (open-walk P n) σ d (length ts) (le-refl _))

@@ -13,7 +13,7 @@ use Rattle.rules.specs.Skipping.{inLine}
 use Rattle.rules.specs.Nest.{onOpen}
 use Rattle.rules.specs.Entries.{parseDocument}
 use Rattle.rules.specs.Quiet.{Quiet}
-use Rattle.rules.specs.Grammar.{noWhitespace, atomPart, noDot, aKey, itIsAtom, scalarEnds, whitespaceAtom, unquotedScalar, aScalar, anArray, anInlineTable, gapEnds, trailingComma, someValues, aPair, noPairs, pairExpression, noComment, aLine, lastLine, Nested, FitsWithin, Fits}
+use Rattle.rules.specs.Grammar.{noWhitespace, SingleLine, bare, atomPart, noDot, aKey, itIsAtom, scalarEnds, whitespaceAtom, unquotedScalar, aScalar, anArray, anInlineTable, gapEnds, trailingComma, someValues, aPair, noPairs, pairExpression, noComment, aLine, lastLine, Nested, FitsWithin, Fits}
 use Rattle.rules.specs.Premises.{OneEofLast, onlyEof, beforeEof, NoAdjacentWhitespace, oneToken, notBoth, NestedWithin}
 use Rattle.rules.proofs.Suffixes.{NotEof}
 use Rattle.rules.proofs.FitsQuietDocument.{Solid}
@@ -25,7 +25,7 @@ text8 = tok Atom 0 1 ∷ tok Equals 1 2 ∷ tok LeftCurlyBracket 2 3 ∷ tok Rig
 
 text8-fits : FitsWithin 1 text8
 unfolding text8 Nested
-text8-fits = lastLine (aLine noWhitespace (pairExpression (aPair (aKey atomPart noDot) noWhitespace noWhitespace (anInlineTable (noPairs noWhitespace)))) noWhitespace noComment)
+text8-fits = lastLine (aLine noWhitespace (pairExpression (aPair (aKey (atomPart bare) noDot) noWhitespace noWhitespace (anInlineTable (noPairs noWhitespace)))) noWhitespace noComment)
 
 -- `x=[1 2,]`
 text12 : List Tok
@@ -33,7 +33,7 @@ text12 = tok Atom 0 1 ∷ tok Equals 1 2 ∷ tok LeftSquareBracket 2 3 ∷ tok A
 
 text12-fits : FitsWithin 1 text12
 unfolding text12 Nested
-text12-fits = lastLine (aLine noWhitespace (pairExpression (aPair (aKey atomPart noDot) noWhitespace noWhitespace (anArray (someValues gapEnds (trailingComma (aScalar (unquotedScalar itIsAtom (whitespaceAtom scalarEnds))) gapEnds gapEnds))))) noWhitespace noComment)
+text12-fits = lastLine (aLine noWhitespace (pairExpression (aPair (aKey (atomPart bare) noDot) noWhitespace noWhitespace (anArray (someValues gapEnds (trailingComma (aScalar (unquotedScalar itIsAtom (whitespaceAtom scalarEnds))) gapEnds gapEnds))))) noWhitespace noComment)
 
 -- `x={a=}`
 text7 : List Tok
@@ -64,9 +64,9 @@ unfolding text7
 text7-shallow = tt
 
 -- its run reports 19
-text7-loud : Quiet (parseDocument text7 .items) → ⊥
+text7-loud : Quiet SingleLine (parseDocument text7 .items) → ⊥
 unfolding text7 turns onOpen
 text7-loud q = q .1 .1 .1 .1 .1
 
 text7-does-not-fit : Fits text7 → ⊥
-text7-does-not-fit f = text7-loud (quiet-fits 0 text7 text7-laid (record { ends = text7-ends; apart = text7-apart }) text7-shallow .1 f)
+text7-does-not-fit f = text7-loud (quiet-fits SingleLine 0 text7 text7-laid (record { ends = text7-ends; apart = text7-apart }) text7-shallow .1 f)

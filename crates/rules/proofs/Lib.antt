@@ -1,5 +1,6 @@
 pub mod BufferLaws
 pub mod OutcomeLaws
+pub mod KeyWords
 pub mod Texts
 pub mod RuledOut
 pub mod TurnsLaws

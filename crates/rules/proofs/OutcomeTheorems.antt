@@ -23,10 +23,10 @@ use Rattle.rules.specs.Words.{lookedUp, eventWords, eventsOf, errorsOf, 
 use Rattle.rules.specs.Answer.{eventSize, errorSize, joined, Outcome, refusalBy, walked}
 use Rattle.rules.specs.Bounds.{event-bound}
 use Rattle.rules.specs.Quiet.{Quiet, QuietRun}
-use Rattle.rules.specs.Grammar.{FitsWithin, Fits}
+use Rattle.rules.specs.Grammar.{Parts, AnyKind, FitsBy}
 use Rattle.rules.specs.Premises.{NestedWithin, Regular, Ready, textEnd, eventsIn, documentRun, eventsLeft, EndToEnd, Nests, SameButForCuts}
 use Rattle.rules.proofs.BufferLaws.{all-fit}
-use Rattle.rules.proofs.OutcomeLaws.{passed-outcome, quiet-ended, quiet-passed, quiet-outcome, outcome-quiet, counted-events, events-written}
+use Rattle.rules.proofs.OutcomeLaws.{passed-outcome, quiet-ended, QuietOutcome, quiet-passed, quiet-outcome, counted-events, events-written}
 use Rattle.rules.proofs.Demand.{quiet-fits-within, nesting-exact, quiet-ends, quiet-nests, quiet-count, quiet-same}
 
 -- the events stand first in a buffer, and are read back from it
@@ -57,7 +57,7 @@ module _ (s : List ℕ) (base : ℕ) (events errors : List ℕ) where
   run-laid : QuietRun (documentRun s base events errors) → Laid base tokens
   run-laid r = laid (quiet-passed documentEntry s base events errors r)
 
-  run-quiet : QuietRun (documentRun s base events errors) → Quiet items
+  run-quiet : QuietRun (documentRun s base events errors) → Quiet AnyKind items
   run-quiet r = quiet-outcome documentEntry s base events errors r .quiet
 
   -- what a quiet run leaves in its buffer is the list of its events
@@ -68,40 +68,41 @@ module _ (s : List ℕ) (base : ℕ) (events errors : List ℕ) where
       ∙ ap (eventsIn (length (eventsOf tokens items))) (all-fit eventSize (eventsOf tokens items) events (o .fits))
       ∙ events-back tokens items (drop (length (joined (eventsOf tokens items))) events)
 
-  -- what a quiet run has read fits: of room and depth nothing is supposed
-  pub outcome-then-fits : Regular tokens → QuietRun (documentRun s base events errors) → FitsWithin maxDepth tokens
-  outcome-then-fits g r = quiet-fits-within base tokens (run-laid r) g .0 (run-quiet r)
-
   -- the refusal of a run that passed the check
   refusal-passed : checked s base ≡ Checked.Passed
       → documentRun s base events errors .answer .refusal ≡ refusalBy (haltOf items) (ltb (length events / eventSize) (length (eventsOf tokens items))) (ltb (length errors / errorSize) (length (errorsOf tokens items)))
   unfolding walked
   refusal-passed p = ap (λ (o : Outcome). o .answer .refusal) (passed-outcome documentEntry s base events errors p)
 
-  -- where 7 is not the refusal of quiet items, their events fit
-  events-fit-by : (short : Bool) → ltb (length events / eventSize) (length (eventsOf tokens items)) ≡ short → Ready s base events errors → Quiet items → length (eventsOf tokens items) ≤ length events / eventSize
-  events-fit-by false e r q = ltb-false _ _ e
-  events-fit-by true e r q = absurd (r .room (refusal-passed (r .passed) ∙ simp (quiet-ended items q, e)))
+  -- `Run` says of the run that it is quiet with keys of the kinds P: with any kind that it is quiet, with the kinds that the grammar allows that
+  -- it is quiet without a multi-line key
+  module _ {P : Parts} {Run : Type 0} (told : Run ↔ QuietOutcome P documentEntry s base events) where
+    -- then what it has read fits: of room and depth nothing is supposed
+    pub outcome-then-fits : Regular tokens → Run → FitsBy P maxDepth tokens
+    outcome-then-fits g r = let o = told .0 r in quiet-fits-within P base tokens (laid (o .passed)) g .0 (o .quiet)
 
-  -- the run is quiet exactly when the tokens fit the grammar with at most 64 arrays and inline tables open
-  pub outcome-fits-within : Ready s base events errors → QuietRun (documentRun s base events errors) ↔ FitsWithin maxDepth tokens
-  outcome-fits-within r =
-      let e = quiet-fits-within base tokens (laid (r .passed)) (r .regular) in (
-        outcome-then-fits (r .regular),
-        λ d. outcome-quiet documentEntry s base events errors (record { passed = r .passed; quiet = e .1 d; fits = events-fit-by _ refl r (e .1 d) }),
-      )
+    -- where 7 is not the refusal of quiet items, their events fit
+    events-fit-by : (short : Bool) → ltb (length events / eventSize) (length (eventsOf tokens items)) ≡ short → Ready s base events errors → Quiet P items → length (eventsOf tokens items) ≤ length events / eventSize
+    events-fit-by false e r q = ltb-false _ _ e
+    events-fit-by true e r q = absurd (r .room (refusal-passed (r .passed) ∙ simp (quiet-ended P items q, e)))
 
-  -- the same, with the depth as a premise
-  pub outcome-fits : Ready s base events errors → NestedWithin maxDepth tokens → QuietRun (documentRun s base events errors) ↔ Fits tokens
-  outcome-fits r shallow =
-      let e = outcome-fits-within r in
-      (λ q. (maxDepth, e .0 q), λ f. e .1 (nesting-exact tokens .1 (f, shallow)))
+    -- exactly when the tokens fit the grammar with at most 64 arrays and inline tables open
+    pub outcome-fits-within : Ready s base events errors → Run ↔ FitsBy P maxDepth tokens
+    outcome-fits-within r =
+        let e = quiet-fits-within P base tokens (laid (r .passed)) (r .regular) in
+        (outcome-then-fits (r .regular), λ d. told .1 (record { passed = r .passed; quiet = e .1 d; fits = events-fit-by _ refl r (e .1 d) }))
 
-  -- room for as many events as there are tokens is enough for a list that fits
-  pub roomy-fits-quiet : checked s base ≡ Checked.Passed → Regular tokens → length tokens ≤ length events / eventSize → FitsWithin maxDepth tokens → QuietRun (documentRun s base events errors)
-  roomy-fits-quiet p g h d =
-      let q = quiet-fits-within base tokens (laid p) g .1 d in
-      outcome-quiet documentEntry s base events errors (record { passed = p; quiet = q; fits = le-trans (quiet-count base tokens (laid p) g q) h })
+    -- the same, with the depth as a premise
+    pub outcome-fits : Ready s base events errors → NestedWithin maxDepth tokens → Run ↔ ((n : ℕ) × FitsBy P n tokens)
+    outcome-fits r shallow =
+        let e = outcome-fits-within r in
+        (λ q. (maxDepth, e .0 q), λ f. e .1 (nesting-exact P tokens .1 (f, shallow)))
+
+    -- room for as many events as there are tokens is enough for a list that fits
+    pub roomy-fits-quiet : checked s base ≡ Checked.Passed → Regular tokens → length tokens ≤ length events / eventSize → FitsBy P maxDepth tokens → Run
+    roomy-fits-quiet p g h d =
+        let q = quiet-fits-within P base tokens (laid p) g .1 d in
+        told .1 (record { passed = p; quiet = q; fits = le-trans (quiet-count P base tokens (laid p) g q) h })
 
   -- room for three times as many is enough for any list
   pub roomy-ready : checked s base ≡ Checked.Passed → Regular tokens → 3 * length tokens ≤ length events / eventSize → Ready s base events errors
@@ -111,11 +112,11 @@ module _ (s : List ℕ) (base : ℕ) (events errors : List ℕ) where
 
   -- the events in its buffer lie end to end, from the base to the end of the text
   pub outcome-ends : Regular tokens → QuietRun (documentRun s base events errors) → EndToEnd base (eventsLeft (documentRun s base events errors)) (textEnd base tokens)
-  outcome-ends g r = subst (λ es. EndToEnd base es (textEnd base tokens)) (sym (run-events r)) (quiet-ends base tokens (run-laid r) g (run-quiet r))
+  outcome-ends g r = subst (λ es. EndToEnd base es (textEnd base tokens)) (sym (run-events r)) (quiet-ends AnyKind base tokens (run-laid r) g (run-quiet r))
 
   -- their brackets nest
   pub outcome-nests : Regular tokens → QuietRun (documentRun s base events errors) → Nests [] (eventsLeft (documentRun s base events errors)) []
-  outcome-nests g r = subst (λ es. Nests [] es []) (sym (run-events r)) (quiet-nests base tokens (run-laid r) g (run-quiet r))
+  outcome-nests g r = subst (λ es. Nests [] es []) (sym (run-events r)) (quiet-nests AnyKind base tokens (run-laid r) g (run-quiet r))
 
 -- two quiet runs from the same base that leave the same events: the tokens are the same but for cuts
 pub outcome-same : (s t : List ℕ) (base : ℕ) (events errors events' errors' : List ℕ) → Regular (allTokens s base) → Regular (allTokens t base)

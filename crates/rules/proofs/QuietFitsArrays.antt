@@ -21,7 +21,7 @@ use Rattle.rules.specs.Skipping.{behindComment, ignoreToNewline, onComme
 use Rattle.rules.specs.Scalar.{unquotedStep, spaceStep, unquoted, behindSpace, scalarBy, onScalar}
 use Rattle.rules.specs.Array.{Nest, arrayStep, arrayTurn}
 use Rattle.rules.specs.Quiet.{Quiet}
-use Rattle.rules.specs.Grammar.{itIsDot, itIsAtom, UnquotedRest, scalarEnds, dotOrAtom, whitespaceAtom, Scalar, aString, unquotedScalar, Inside, Value, aScalar, anArray, anInlineTable, Gap, gapEnds, whitespaceInGap, newlineInGap, commentInGap, lastValue, trailingComma, moreValues, ArrayInside, noValues, someValues}
+use Rattle.rules.specs.Grammar.{Parts, itIsDot, itIsAtom, UnquotedRest, scalarEnds, dotOrAtom, whitespaceAtom, Scalar, aString, unquotedScalar, Inside, Value, aScalar, anArray, anInlineTable, Gap, gapEnds, whitespaceInGap, newlineInGap, commentInGap, lastValue, trailingComma, moreValues, ArrayInside, noValues, someValues}
 use Rattle.rules.specs.Premises.{Regular}
 use Rattle.rules.proofs.Reading.{quiet-then}
 use Rattle.rules.proofs.Suffixes.{suffix-length, regular-tail, suffix-regular, not-empty, eof-last, suffix-scalar, scalar-length, NestSuffix}
@@ -60,8 +60,8 @@ scalar-fits (startsQuoted s) a b ts = aString s
 scalar-fits (startsUnquoted d) a b ts = unquotedScalar d (unquoted-rest ts a b)
 
 -- a quiet walk over what brackets hold has read it
-abbrev pub NestFits : Inside → Nest → Type 0
-NestFits N nest = (r : Bracket) (a b : ℕ) (ts : List Tok) → Regular ts → Quiet (nest r a b ts .items) → N r ts (nest r a b ts .rest)
+abbrev pub NestFits : Parts → Inside → Nest → Type 0
+NestFits P N nest = (r : Bracket) (a b : ℕ) (ts : List Tok) → Regular ts → Quiet P (nest r a b ts .items) → N r ts (nest r a b ts .rest)
 
 -- what follows a value in an array
 data AfterValue (N : Inside) : List Tok → List Tok → Type 0 where
@@ -85,42 +85,42 @@ wider N rest ArrayState.NeedsValue f (someValues g vs) = someValues (f _ g) vs
 wider N rest ArrayState.NeedsComma f (closesArray g) = closesArray (f _ g)
 wider N rest ArrayState.NeedsComma f (goesOn g i) = goesOn (f _ g) i
 
-module _ (N : Inside) (head : Place) (nest : Nest) (nested : NestSuffix N) (fits : NestFits N nest) where
+module _ (P : Parts) (N : Inside) (head : Place) (nest : Nest) (nested : NestSuffix N) (fits : NestFits P N nest) where
   abbrev loop : ℕ → ArrayState → List Tok → Out
   loop n = turns (arrayTurn head nest) n
 
   abbrev ArrayFits : ℕ → Type 0
-  ArrayFits n = (st : ArrayState) (ts : List Tok) → length ts ≤ n → Regular ts → Quiet (loop n st ts .items) → AfterState N st ts (loop n st ts .rest)
+  ArrayFits n = (st : ArrayState) (ts : List Tok) → length ts ≤ n → Regular ts → Quiet P (loop n st ts .items) → AfterState N st ts (loop n st ts .rest)
 
   -- the list is exhausted: reported
-  loud-end : (n : ℕ) (st : ArrayState) → Quiet (loop n st [] .items) → ⊥
+  loud-end : (n : ℕ) (st : ArrayState) → Quiet P (loop n st [] .items) → ⊥
   unfolding turns
   loud-end zero st q = q
   loud-end (suc n) st q = q
 
   comment-step : (n : ℕ) → ArrayFits n → (st : ArrayState) (a b c d : ℕ) {k : Kind} {x : InLine} → InLineView k x → (ts : List Tok) → length (tok k c d ∷ ts) ≤ n → Regular (tok k c d ∷ ts)
-      → Quiet (((receiver.comment a b ▹ behindComment x a c d ts (ignoreToNewline ts)) then loop n st) .items) → AfterState N st (tok Comment a b ∷ tok k c d ∷ ts) (((receiver.comment a b ▹ behindComment x a c d ts (ignoreToNewline ts)) then loop n st) .rest)
+      → Quiet P (((receiver.comment a b ▹ behindComment x a c d ts (ignoreToNewline ts)) then loop n st) .items) → AfterState N st (tok Comment a b ∷ tok k c d ∷ ts) (((receiver.comment a b ▹ behindComment x a c d ts (ignoreToNewline ts)) then loop n st) .rest)
   comment-step n ih st a b c d lineNewline ts h g q = wider N (loop n st ts .rest) st (λ us. commentInGap) (ih st ts (le-trans (le-step (le-refl _)) h) (regular-tail tt g) (q .1 .1))
-  comment-step n ih st a b c d lineEof ts h g q = absurd (loud-end n st (subst (λ us. Quiet (loop n st us .items)) (eof-last (g .ends)) (q .1)))
+  comment-step n ih st a b c d lineEof ts h g q = absurd (loud-end n st (subst (λ us. Quiet P (loop n st us .items)) (eof-last (g .ends)) (q .1)))
   comment-step n ih st a b c d lineOther ts h g q = absurd (q .1)
   comment-step n ih st a b c d lineComment ts h g q = absurd (q .1)
   comment-step n ih st a b c d lineWhitespace ts h g q = absurd (q .1)
 
-  comment-fits : (n : ℕ) → ArrayFits n → (st : ArrayState) (a b : ℕ) (ts : List Tok) → length ts ≤ n → Regular ts → Quiet ((onComment a b ts then loop n st) .items) → AfterState N st (tok Comment a b ∷ ts) ((onComment a b ts then loop n st) .rest)
+  comment-fits : (n : ℕ) → ArrayFits n → (st : ArrayState) (a b : ℕ) (ts : List Tok) → length ts ≤ n → Regular ts → Quiet P ((onComment a b ts then loop n st) .items) → AfterState N st (tok Comment a b ∷ ts) ((onComment a b ts then loop n st) .rest)
   comment-fits n ih st a b [] h g q = absurd (not-empty g)
   comment-fits n ih st a b (tok k c d ∷ ts) h g q = comment-step n ih st a b c d (inLineView k) ts h g q
 
   -- a value was read
-  value-fits : (n : ℕ) → ArrayFits n → {ts : List Tok} (o : Out) → Value N ts (o .rest) → length (o .rest) ≤ n → Regular (o .rest) → Quiet ((o then loop n ArrayState.NeedsComma) .items) → ArrayInside N ts ((o then loop n ArrayState.NeedsComma) .rest)
-  value-fits n ih o v h g q = attach v (ih ArrayState.NeedsComma (o .rest) h g (quiet-then o (loop n ArrayState.NeedsComma) q .1))
+  value-fits : (n : ℕ) → ArrayFits n → {ts : List Tok} (o : Out) → Value N ts (o .rest) → length (o .rest) ≤ n → Regular (o .rest) → Quiet P ((o then loop n ArrayState.NeedsComma) .items) → ArrayInside N ts ((o then loop n ArrayState.NeedsComma) .rest)
+  value-fits n ih o v h g q = attach v (ih ArrayState.NeedsComma (o .rest) h g (quiet-then P o (loop n ArrayState.NeedsComma) q .1))
 
-  nest-fits : (n : ℕ) → ArrayFits n → (r : Bracket) (a b : ℕ) {ps : List Tok} (ts : List Tok) → ((rest : List Tok) → N r ts rest → Value N ps rest) → length ts ≤ n → Regular ts → Quiet ((nest r a b ts then loop n ArrayState.NeedsComma) .items) → ArrayInside N ps ((nest r a b ts then loop n ArrayState.NeedsComma) .rest)
+  nest-fits : (n : ℕ) → ArrayFits n → (r : Bracket) (a b : ℕ) {ps : List Tok} (ts : List Tok) → ((rest : List Tok) → N r ts rest → Value N ps rest) → length ts ≤ n → Regular ts → Quiet P ((nest r a b ts then loop n ArrayState.NeedsComma) .items) → ArrayInside N ps ((nest r a b ts then loop n ArrayState.NeedsComma) .rest)
   nest-fits n ih r a b ts f h g q =
-      let m = fits r a b ts g (quiet-then (nest r a b ts) (loop n ArrayState.NeedsComma) q .0) in
+      let m = fits r a b ts g (quiet-then P (nest r a b ts) (loop n ArrayState.NeedsComma) q .0) in
       value-fits n ih (nest r a b ts) (f _ m) (le-trans (suffix-length (nested _ _ _ m)) h) (suffix-regular (nested _ _ _ m) g) q
 
   step : (n : ℕ) → ArrayFits n → {k : Kind} {x : InArray} → InArrayView k x → (st : ArrayState) (a b : ℕ) (ts : List Tok) → length ts ≤ n → Regular (tok k a b ∷ ts)
-      → Quiet (arrayStep x k head nest (loop n) st a b ts .items) → AfterState N st (tok k a b ∷ ts) (arrayStep x k head nest (loop n) st a b ts .rest)
+      → Quiet P (arrayStep x k head nest (loop n) st a b ts .items) → AfterState N st (tok k a b ∷ ts) (arrayStep x k head nest (loop n) st a b ts .rest)
   step n ih arrayWhitespace st a b ts h g q = wider N (loop n st ts .rest) st (λ us. whitespaceInGap) (ih st ts h (regular-tail tt g) (q .1))
   step n ih arrayNewline st a b ts h g q = wider N (loop n st ts .rest) st (λ us. newlineInGap) (ih st ts h (regular-tail tt g) (q .1))
   step n ih arrayComment st a b ts h g q = comment-fits n ih st a b ts h (regular-tail tt g) q
@@ -148,5 +148,5 @@ module _ (N : Inside) (head : Place) (nest : Nest) (nested : NestSuffix N) (fits
   array-fits (suc n) st [] h g q = absurd q
   array-fits (suc n) st (tok k a b ∷ ts) h g q = step n (array-fits n) (inArrayView k) st a b ts (le-of-suc-le-suc h) g q
 
-  pub values-fit : (ts : List Tok) → Regular ts → Quiet (loop (length ts) ArrayState.NeedsValue ts .items) → ArrayInside N ts (loop (length ts) ArrayState.NeedsValue ts .rest)
+  pub values-fit : (ts : List Tok) → Regular ts → Quiet P (loop (length ts) ArrayState.NeedsValue ts .items) → ArrayInside N ts (loop (length ts) ArrayState.NeedsValue ts .rest)
   values-fit ts g q = array-fits (length ts) ArrayState.NeedsValue ts (le-refl _) g q

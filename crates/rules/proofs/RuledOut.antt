@@ -4,12 +4,13 @@ use mathlib.Core.List.{List, [], _∷_}
 use Prim.Native.Nat.{ℕ}
 use native.Mathlib.Omega.{arith}
 use Rattle.token.specs.declared.kind.Kind.{Kind}
-use Rattle.token.specs.declared.kind.Kind.the-variants.{Atom, Eof}
+use Rattle.token.specs.declared.kind.Kind.the-variants.{LeftSquareBracket, Atom, Eof}
 use Rattle.token.specs.Kinds.{numberOf}
 use Rattle.token.specs.Tokens.{Tok, tok}
-use Rattle.rules.specs.Grammar.{noWhitespace, literal, basic, multiLineLiteral, multiLineBasic, atomPart, noDot, aKey, itIsDot, itIsAtom, aString, unquotedScalar, Inside, Value, aScalar, anArray, anInlineTable, aPair, noExpression, pairExpression, noComment, Line, aLine, lineAndMore, lastLine, Fits}
+use Rattle.rules.specs.Grammar.{noWhitespace, literal, basic, multiLineLiteral, multiLineBasic, Parts, SingleLine, KeyPart, atomPart, stringPart, noDot, aKey, itIsDot, itIsAtom, aString, unquotedScalar, Inside, Value, aScalar, anArray, anInlineTable, aPair, tableHeader, noExpression, pairExpression, headerExpression, noComment, Line, aLine, lineAndMore, lastLine, Fits, FitsWide}
 use Rattle.rules.specs.Premises.{EndToEnd, anEvent, OpenBracket, openArray, openInlineTable, opens, closes, Changes, opensOne, closesLast, Nests, nestsEvent, SameButForCuts, sameToken, sameTwoTokens, cutOtherwise}
-use Rattle.rules.specs.RuledOut.{withGap, crossing, keyEvents, keyWhole, keyCut, withoutValue}
+use Rattle.rules.proofs.KeyWords.{allowed}
+use Rattle.rules.specs.RuledOut.{withGap, crossing, keyEvents, keyWhole, keyCut, withoutValue, multiLineHeader}
 
 -- the first event starts where the events start
 first-starts : {p kind encoding start end q : ℕ} {events : List (List ℕ)} → EndToEnd p ((kind ∷ encoding ∷ start ∷ end ∷ []) ∷ events) q → p ≡ start
@@ -53,10 +54,32 @@ value-first (anArray i) e = omega (arith, ap numberOf e)
 value-first (anInlineTable i) e = omega (arith, ap numberOf e)
 
 -- the line with which this list begins is empty, so that an Atom follows it, or has a value
-without-value-line : {N : Inside} {k : Kind} {a b : ℕ} {rest : List Tok} → (k ≡ Atom → ⊥) → Line N withoutValue (tok k a b ∷ rest) → ⊥
+without-value-line : {P : Parts} {N : Inside} {k : Kind} {a b : ℕ} {rest : List Tok} → (k ≡ Atom → ⊥) → Line P N withoutValue (tok k a b ∷ rest) → ⊥
 without-value-line n (aLine noWhitespace noExpression noWhitespace noComment) = n refl
-without-value-line n (aLine noWhitespace (pairExpression (aPair (aKey atomPart noDot) noWhitespace noWhitespace v)) w c) = value-first v refl
+without-value-line n (aLine noWhitespace (pairExpression (aPair (aKey (atomPart l) noDot) noWhitespace noWhitespace v)) w c) = value-first v refl
 
 pub without-value-ruled-out : Fits withoutValue → ⊥
 without-value-ruled-out (n, lineAndMore l d) = without-value-line (λ e. omega (arith, ap numberOf e)) l
 without-value-ruled-out (n, lastLine l) = without-value-line (λ e. omega (arith, ap numberOf e)) l
+
+-- a key does not begin with `[`
+part-first : {P : Parts} {k : Kind} → KeyPart P k → k ≡ LeftSquareBracket → ⊥
+part-first (atomPart l) e = omega (arith, ap numberOf e)
+part-first (stringPart literal l) e = omega (arith, ap numberOf e)
+part-first (stringPart basic l) e = omega (arith, ap numberOf e)
+part-first (stringPart multiLineLiteral l) e = omega (arith, ap numberOf e)
+part-first (stringPart multiLineBasic l) e = omega (arith, ap numberOf e)
+
+-- so with a header whose key is a multi-line string
+multi-line-header-line : {N : Inside} {k : Kind} {a b : ℕ} {rest : List Tok} → (k ≡ LeftSquareBracket → ⊥) → Line SingleLine N multiLineHeader (tok k a b ∷ rest) → ⊥
+multi-line-header-line n (aLine noWhitespace noExpression noWhitespace noComment) = n refl
+multi-line-header-line n (aLine noWhitespace (pairExpression (aPair (aKey p d) w x v)) y c) = part-first p refl
+multi-line-header-line n (aLine noWhitespace (headerExpression (tableHeader noWhitespace (aKey (stringPart multiLineBasic l) noDot) noWhitespace)) w c) = allowed l .1 refl
+
+pub multi-line-header-ruled-out : Fits multiLineHeader → ⊥
+multi-line-header-ruled-out (n, lineAndMore l d) = multi-line-header-line (λ e. omega (arith, ap numberOf e)) l
+multi-line-header-ruled-out (n, lastLine l) = multi-line-header-line (λ e. omega (arith, ap numberOf e)) l
+
+-- the wide grammar has it
+pub multi-line-header-wide : FitsWide multiLineHeader
+multi-line-header-wide = (0, lastLine (aLine noWhitespace (headerExpression (tableHeader noWhitespace (aKey (stringPart multiLineBasic tt) noDot) noWhitespace)) noWhitespace noComment))

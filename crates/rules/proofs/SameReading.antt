@@ -15,22 +15,14 @@ use Rattle.rules.specs.declared.event.Event.{Event}
 use Rattle.rules.specs.Out.{Item, event, eventAfter, report, stop}
 use Rattle.rules.specs.InlineTable.{encodingAt}
 use Rattle.rules.specs.Words.{eventNumber, encodingOf, eventsOf}
-use Rattle.rules.specs.Quiet.{Quiet}
-use Rattle.rules.specs.Grammar.{literal, basic, multiLineLiteral, multiLineBasic, KeyPart, atomPart, stringPart, Scalar}
+use Rattle.rules.specs.Quiet.{kindByEncoding, Quiet}
+use Rattle.rules.specs.Grammar.{AnyString, literal, basic, multiLineLiteral, multiLineBasic, Parts, KeyPart, atomPart, stringPart, Scalar}
 use Rattle.rules.specs.Premises.{OpenBracket, SameButForCuts, sameToken, sameTwoTokens, cutOtherwise}
 use Rattle.rules.proofs.Reading.{ReadsOne, readsDot, readsEquals, readsComma, readsTableOpen, readsTableClose, readsArrayOpen, readsArrayClose, readsInlineTableOpen, readsInlineTableClose, readsWhitespace, readsNewline, readsComment, readsKey, readsString, ReadsTwo, readsArrayTableOpen, readsArrayTableClose, Reads, readNone, readOne, readTwo, readUnquoted}
 use Rattle.rules.proofs.WellRead.{two-wide, unquoted-laid}
 
 -- the kind of the token that an event reads
-kindByEncoding : Encoding → Kind
-kindByEncoding Encoding.None = Atom
-kindByEncoding Encoding.LiteralString = LiteralString
-kindByEncoding Encoding.BasicString = BasicString
-kindByEncoding Encoding.MlLiteralString = MlLiteralString
-kindByEncoding Encoding.MlBasicString = MlBasicString
-
 kindRead : Event → Kind
-unfolding kindByEncoding
 kindRead Event.StdTableOpen = LeftSquareBracket
 kindRead Event.StdTableClose = RightSquareBracket
 kindRead Event.ArrayTableOpen = LeftSquareBracket
@@ -49,15 +41,17 @@ kindRead Event.Comment = Comment
 kindRead Event.Newline = Newline
 kindRead Event.Error = Eof
 
-part-kind : {k : Kind} → KeyPart k → kindByEncoding (encodingAt k) ≡ k
-unfolding kindByEncoding
-part-kind atomPart = refl
-part-kind (stringPart literal) = refl
-part-kind (stringPart basic) = refl
-part-kind (stringPart multiLineLiteral) = refl
-part-kind (stringPart multiLineBasic) = refl
+string-kind : {k : Kind} → AnyString k → kindByEncoding (encodingAt k) ≡ k
+string-kind literal = refl
+string-kind basic = refl
+string-kind multiLineLiteral = refl
+string-kind multiLineBasic = refl
 
-one-kind : {k : Kind} {g : Event} {σ τ : List OpenBracket} → ReadsOne k g σ τ → kindRead g ≡ k
+part-kind : {P : Parts} {k : Kind} → KeyPart P k → kindByEncoding (encodingAt k) ≡ k
+part-kind (atomPart l) = refl
+part-kind (stringPart s l) = string-kind s
+
+one-kind : {P : Parts} {k : Kind} {g : Event} {σ τ : List OpenBracket} → ReadsOne P k g σ τ → kindRead g ≡ k
 unfolding kindRead
 one-kind readsDot = refl
 one-kind readsEquals = refl
@@ -72,7 +66,7 @@ one-kind readsWhitespace = refl
 one-kind readsNewline = refl
 one-kind readsComment = refl
 one-kind (readsKey p) = part-kind p
-one-kind (readsString s) = part-kind (stringPart s)
+one-kind (readsString s) = string-kind s
 
 two-kind : {k : Kind} {g : Event} {σ τ : List OpenBracket} → ReadsTwo k g σ τ → kindRead g ≡ k
 unfolding kindRead
@@ -110,7 +104,7 @@ reading Event.Comment = byOne
 reading Event.Newline = byOne
 reading Event.Error = byOne
 
-one-reading : {k : Kind} {g : Event} {σ τ : List OpenBracket} → ReadsOne k g σ τ → reading g ≡ byOne
+one-reading : {P : Parts} {k : Kind} {g : Event} {σ τ : List OpenBracket} → ReadsOne P k g σ τ → reading g ≡ byOne
 unfolding reading byEncoding
 one-reading readsDot = refl
 one-reading readsEquals = refl
@@ -145,10 +139,10 @@ differ r p q = let z : _≡_ {A = ℕ} 0 1 = cc in omega arith
 differ-scalar : (r : Reading) → r ≡ byOne → r ≡ byScalar → ⊥
 differ-scalar r p q = let z : _≡_ {A = ℕ} 0 1 = cc in omega arith
 
-one-two : {k l : Kind} {g : Event} {σ τ σ' τ' : List OpenBracket} → ReadsOne k g σ τ → ReadsTwo l g σ' τ' → ⊥
+one-two : {P : Parts} {k l : Kind} {g : Event} {σ τ σ' τ' : List OpenBracket} → ReadsOne P k g σ τ → ReadsTwo l g σ' τ' → ⊥
 one-two {g = g} o p = differ (reading g) (one-reading o) (two-reading p)
 
-one-scalar : {k : Kind} {σ τ : List OpenBracket} → ReadsOne k (Event.Scalar Encoding.None) σ τ → ⊥
+one-scalar : {P : Parts} {k : Kind} {σ τ : List OpenBracket} → ReadsOne P k (Event.Scalar Encoding.None) σ τ → ⊥
 one-scalar o = differ-scalar (reading (Event.Scalar Encoding.None)) (one-reading o) scalar-reading
 
 two-same : {kind encoding : ℕ} {es : List (List ℕ)} {k l : Kind} {a b c d : ℕ} {ts us : List Tok} → k ≡ l → b ≡ c → SameButForCuts es ts us
@@ -156,7 +150,7 @@ two-same : {kind encoding : ℕ} {es : List (List ℕ)} {k l : Kind} {a b c d : 
 two-same {kind} {encoding} {es} {k} {l} {a} {b} {c} {d} {ts} {us} e f h =
     subst₂ (λ x y. SameButForCuts ((kind ∷ encoding ∷ a ∷ d ∷ []) ∷ es) (tok k a b ∷ tok k b d ∷ ts) (tok x a y ∷ tok x y d ∷ us)) e f (sameTwoTokens h)
 
-pub reads-same : (all : List Tok) {is : List Item} {ts vs us ws : List Tok} {p : ℕ} {σ τ σ' τ' : List OpenBracket} → Reads is ts vs σ τ → Reads is us ws σ' τ' → Laid p ts → Laid p us → SameButForCuts [] vs ws → SameButForCuts (eventsOf all is) ts us
+pub reads-same : {P : Parts} (all : List Tok) {is : List Item} {ts vs us ws : List Tok} {p : ℕ} {σ τ σ' τ' : List OpenBracket} → Reads P is ts vs σ τ → Reads P is us ws σ' τ' → Laid p ts → Laid p us → SameButForCuts [] vs ws → SameButForCuts (eventsOf all is) ts us
 reads-same all readNone readNone l m h = h
 reads-same all (readOne {g = g} {is = is} {ts = ts} o r) (readOne {k = k} {a = a} {b = b} {ts = us} o' r') (laidToken w l) (laidToken w' m) h =
     subst (λ x. SameButForCuts (eventsOf all (event g a b ∷ is)) (tok x a b ∷ ts) (tok k a b ∷ us)) (sym (one-kind o') ∙ one-kind o) (sameToken (reads-same all r r' l m h))
@@ -219,14 +213,14 @@ event-back Event.Comment = refl
 event-back Event.Newline = refl
 event-back Event.Error = refl
 
-items-back : (all : List Tok) (is : List Item) → Quiet is → itemsFrom (eventsOf all is) ≡ is
+items-back : (P : Parts) (all : List Tok) (is : List Item) → Quiet P is → itemsFrom (eventsOf all is) ≡ is
 unfolding itemsFrom itemFrom
-items-back all [] q = refl
-items-back all (event g a b ∷ is) q = λ i. event (event-back g i) a b ∷ items-back all is (q .1) i
-items-back all (eventAfter g l ∷ is) q = absurd q
-items-back all (report m x c u ∷ is) q = absurd q
-items-back all (stop n ∷ is) q = absurd q
+items-back P all [] q = refl
+items-back P all (event g a b ∷ is) q = λ i. event (event-back g i) a b ∷ items-back P all is (q .1) i
+items-back P all (eventAfter g l ∷ is) q = absurd q
+items-back P all (report m x c u ∷ is) q = absurd q
+items-back P all (stop n ∷ is) q = absurd q
 
 -- quiet runs with the same event words have the same items
-pub words-tell : (all all' : List Tok) (is js : List Item) → Quiet is → Quiet js → eventsOf all is ≡ eventsOf all' js → is ≡ js
-words-tell all all' is js q r e = sym (items-back all is q) ∙ ap itemsFrom e ∙ items-back all' js r
+pub words-tell : (P : Parts) (all all' : List Tok) (is js : List Item) → Quiet P is → Quiet P js → eventsOf all is ≡ eventsOf all' js → is ≡ js
+words-tell P all all' is js q r e = sym (items-back P all is q) ∙ ap itemsFrom e ∙ items-back P all' js r

@@ -9,7 +9,7 @@ use Rattle.token.specs.declared.kind.Kind.{Kind}
 use Rattle.token.specs.declared.kind.Kind.the-variants.{Dot, Equals, Comma, LeftSquareBracket, RightSquareBracket, LeftCurlyBracket, RightCurlyBracket, Whitespace, Comment, Newline, LiteralString, BasicString, MlLiteralString, MlBasicString, Atom, Eof}
 use Rattle.token.specs.Tokens.{Tok, tok}
 use Rattle.rules.specs.declared.skipping.Bracket.{Bracket}
-use Rattle.rules.specs.Grammar.{OptWhitespace, noWhitespace, aWhitespace, AnyString, literal, basic, multiLineLiteral, multiLineBasic, KeyPart, atomPart, stringPart, Dots, noDot, aDot, Key, aKey, DotOrAtom, itIsDot, itIsAtom, UnquotedRest, scalarEnds, dotOrAtom, whitespaceAtom, Scalar, aString, unquotedScalar, Inside, Value, aScalar, anArray, anInlineTable, Gap, gapEnds, whitespaceInGap, newlineInGap, commentInGap, ArrayValues, lastValue, trailingComma, moreValues, ArrayInside, noValues, someValues, Pair, aPair, Pairs, lastPair, morePairs, TableInside, noPairs, somePairs, Header, tableHeader, arrayTableHeader, OptComment, noComment, aComment, Nested}
+use Rattle.rules.specs.Grammar.{OptWhitespace, noWhitespace, aWhitespace, AnyString, literal, basic, multiLineLiteral, multiLineBasic, Parts, KeyPart, atomPart, stringPart, Dots, noDot, aDot, Key, aKey, DotOrAtom, itIsDot, itIsAtom, UnquotedRest, scalarEnds, dotOrAtom, whitespaceAtom, Scalar, aString, unquotedScalar, Inside, Value, aScalar, anArray, anInlineTable, Gap, gapEnds, whitespaceInGap, newlineInGap, commentInGap, ArrayValues, lastValue, trailingComma, moreValues, ArrayInside, noValues, someValues, Pair, aPair, Pairs, lastPair, morePairs, TableInside, noPairs, somePairs, Header, tableHeader, arrayTableHeader, OptComment, noComment, aComment, Nested}
 use Rattle.rules.specs.Premises.{OneEofLast, onlyEof, beforeEof, NoAdjacentWhitespace, noToken, oneToken, notBoth, Regular}
 
 -- is a kind other than Eof?
@@ -83,15 +83,15 @@ pub whitespace-merge : {ts us rest : List Tok} → OptWhitespace ts us → OptWh
 whitespace-merge noWhitespace w g = w
 whitespace-merge aWhitespace w g = widen g w
 
-string-not-eof : {k : Kind} → AnyString k → NotEof k
+pub string-not-eof : {k : Kind} → AnyString k → NotEof k
 string-not-eof literal = tt
 string-not-eof basic = tt
 string-not-eof multiLineLiteral = tt
 string-not-eof multiLineBasic = tt
 
-pub part-not-eof : {k : Kind} → KeyPart k → NotEof k
-part-not-eof atomPart = tt
-part-not-eof (stringPart s) = string-not-eof s
+pub part-not-eof : {P : Parts} {k : Kind} → KeyPart P k → NotEof k
+part-not-eof (atomPart l) = tt
+part-not-eof (stringPart s l) = string-not-eof s
 
 pub dot-or-atom-not-eof : {k : Kind} → DotOrAtom k → NotEof k
 dot-or-atom-not-eof itIsDot = tt
@@ -116,11 +116,11 @@ suffix-gap (whitespaceInGap g) = later tt (suffix-gap g)
 suffix-gap (newlineInGap g) = later tt (suffix-gap g)
 suffix-gap (commentInGap g) = later tt (later tt (suffix-gap g))
 
-pub suffix-dots : {ts rest : List Tok} → Dots ts rest → Suffix ts rest
+pub suffix-dots : {P : Parts} {ts rest : List Tok} → Dots P ts rest → Suffix ts rest
 suffix-dots noDot = whole
 suffix-dots (aDot v w p d) = suffix-trans (suffix-whitespace v) (later tt (suffix-trans (suffix-whitespace w) (later (part-not-eof p) (suffix-dots d))))
 
-pub suffix-key : {ts rest : List Tok} → Key ts rest → Suffix ts rest
+pub suffix-key : {P : Parts} {ts rest : List Tok} → Key P ts rest → Suffix ts rest
 suffix-key (aKey p d) = later (part-not-eof p) (suffix-dots d)
 
 pub suffix-scalar : {ts rest : List Tok} → Scalar ts rest → Suffix ts rest
@@ -131,7 +131,7 @@ pub scalar-length : {t : Tok} {ts rest : List Tok} → Scalar (t ∷ ts) rest �
 scalar-length (aString s) = le-refl _
 scalar-length (unquotedScalar d r) = suffix-length (suffix-unquoted r)
 
-pub suffix-header : {ts rest : List Tok} → Header ts rest → Suffix ts rest
+pub suffix-header : {P : Parts} {ts rest : List Tok} → Header P ts rest → Suffix ts rest
 suffix-header (tableHeader v k w) = later tt (suffix-trans (suffix-whitespace v) (suffix-trans (suffix-key k) (suffix-trans (suffix-whitespace w) (later tt whole))))
 suffix-header (arrayTableHeader v k w) = later tt (later tt (suffix-trans (suffix-whitespace v) (suffix-trans (suffix-key k) (suffix-trans (suffix-whitespace w) (later tt (later tt whole))))))
 
@@ -154,19 +154,19 @@ module _ {N : Inside} (nested : NestSuffix N) where
   suffix-array (noValues g) = suffix-trans (suffix-gap g) (later tt whole)
   suffix-array (someValues g vs) = suffix-trans (suffix-gap g) (suffix-values vs)
 
-  pub suffix-pair : {ts rest : List Tok} → Pair N ts rest → Suffix ts rest
+  pub suffix-pair : {P : Parts} {ts rest : List Tok} → Pair P N ts rest → Suffix ts rest
   suffix-pair (aPair k v w y) = suffix-trans (suffix-key k) (suffix-trans (suffix-whitespace v) (later tt (suffix-trans (suffix-whitespace w) (suffix-value y))))
 
-  suffix-pairs : {ts rest : List Tok} → Pairs N ts rest → Suffix ts rest
+  suffix-pairs : {P : Parts} {ts rest : List Tok} → Pairs P N ts rest → Suffix ts rest
   suffix-pairs (lastPair p w) = suffix-trans (suffix-pair p) (suffix-trans (suffix-whitespace w) (later tt whole))
   suffix-pairs (morePairs p v w ps) = suffix-trans (suffix-pair p) (suffix-trans (suffix-whitespace v) (later tt (suffix-trans (suffix-whitespace w) (suffix-pairs ps))))
 
-  suffix-table : {ts rest : List Tok} → TableInside N ts rest → Suffix ts rest
+  suffix-table : {P : Parts} {ts rest : List Tok} → TableInside P N ts rest → Suffix ts rest
   suffix-table (noPairs w) = suffix-trans (suffix-whitespace w) (later tt whole)
   suffix-table (somePairs w ps) = suffix-trans (suffix-whitespace w) (suffix-pairs ps)
 
-pub suffix-nested : (n : ℕ) → NestSuffix (Nested n)
+pub suffix-nested : (P : Parts) (n : ℕ) → NestSuffix (Nested P n)
 unfolding Nested
-suffix-nested zero r ts rest d = absurd d
-suffix-nested (suc n) Bracket.Square ts rest d = suffix-array (suffix-nested n) d
-suffix-nested (suc n) Bracket.Curly ts rest d = suffix-table (suffix-nested n) d
+suffix-nested P zero r ts rest d = absurd d
+suffix-nested P (suc n) Bracket.Square ts rest d = suffix-array (suffix-nested P n) d
+suffix-nested P (suc n) Bracket.Curly ts rest d = suffix-table (suffix-nested P n) d

@@ -21,32 +21,33 @@ use Rattle.rules.specs.Scalar.{startingOf, inScalar}
 use Rattle.rules.specs.Array.{inArray}
 use Rattle.rules.specs.Value.{inValue}
 use Rattle.rules.specs.Document.{inDocument}
-use Rattle.rules.specs.Grammar.{AnyString, literal, basic, multiLineLiteral, multiLineBasic, KeyPart, atomPart, stringPart, Key, DotOrAtom, itIsDot, itIsAtom, Scalar}
+use Rattle.rules.specs.Quiet.{kindByEncoding}
+use Rattle.rules.specs.Grammar.{AnyString, literal, basic, multiLineLiteral, multiLineBasic, Parts, KeyPart, atomPart, stringPart, Key, DotOrAtom, itIsDot, itIsAtom, Scalar}
 
--- keys
-pub data InKeyView : Kind → InKey → Type 0 where
-  viewPart : {k : Kind} {e : Encoding} → KeyPart k → InKeyView k (InKey.Part e)
-  viewWhitespace : InKeyView Whitespace InKey.Whitespace
-  viewDot : InKeyView Dot InKey.Dot
-  viewOther : {k : Kind} → InKeyView k InKey.Other
+-- keys: a token of a kind that P has is a part
+pub data InKeyView (P : Parts) : Kind → InKey → Type 0 where
+  viewPart : {k : Kind} {e : Encoding} → (P (kindByEncoding e) → KeyPart P k) → InKeyView P k (InKey.Part e)
+  viewWhitespace : InKeyView P Whitespace InKey.Whitespace
+  viewDot : InKeyView P Dot InKey.Dot
+  viewOther : {k : Kind} → InKeyView P k InKey.Other
 
-pub inKeyView : (k : Kind) → InKeyView k (inKey k)
-inKeyView Dot = viewDot
-inKeyView Equals = viewOther
-inKeyView Comma = viewOther
-inKeyView LeftSquareBracket = viewOther
-inKeyView RightSquareBracket = viewOther
-inKeyView LeftCurlyBracket = viewOther
-inKeyView RightCurlyBracket = viewOther
-inKeyView Whitespace = viewWhitespace
-inKeyView Comment = viewOther
-inKeyView Newline = viewOther
-inKeyView LiteralString = viewPart (stringPart literal)
-inKeyView BasicString = viewPart (stringPart basic)
-inKeyView MlLiteralString = viewPart (stringPart multiLineLiteral)
-inKeyView MlBasicString = viewPart (stringPart multiLineBasic)
-inKeyView Atom = viewPart atomPart
-inKeyView Eof = viewOther
+pub inKeyView : (P : Parts) (k : Kind) → InKeyView P k (inKey k)
+inKeyView P Dot = viewDot
+inKeyView P Equals = viewOther
+inKeyView P Comma = viewOther
+inKeyView P LeftSquareBracket = viewOther
+inKeyView P RightSquareBracket = viewOther
+inKeyView P LeftCurlyBracket = viewOther
+inKeyView P RightCurlyBracket = viewOther
+inKeyView P Whitespace = viewWhitespace
+inKeyView P Comment = viewOther
+inKeyView P Newline = viewOther
+inKeyView P LiteralString = viewPart (stringPart literal)
+inKeyView P BasicString = viewPart (stringPart basic)
+inKeyView P MlLiteralString = viewPart (stringPart multiLineLiteral)
+inKeyView P MlBasicString = viewPart (stringPart multiLineBasic)
+inKeyView P Atom = viewPart atomPart
+inKeyView P Eof = viewOther
 
 -- unquoted scalars
 pub data InScalarView : Kind → InScalar → Type 0 where
@@ -165,35 +166,35 @@ inValueView Atom = valueScalar (startsUnquoted itIsAtom)
 inValueView Eof = valueNothing
 
 -- lines
-pub data InDocumentView : Kind → InDocument → Type 0 where
-  documentOpenSquare : InDocumentView LeftSquareBracket InDocument.OpenSquare
-  documentCloseSquare : InDocumentView RightSquareBracket InDocument.CloseSquare
-  documentKey : {k : Kind} {e : Encoding} → KeyPart k → InDocumentView k (InDocument.Key e)
-  documentEquals : InDocumentView Equals InDocument.Equals
-  documentDot : InDocumentView Dot InDocument.Dot
-  documentStray : {k : Kind} → InDocumentView k InDocument.Stray
-  documentWhitespace : InDocumentView Whitespace InDocument.Whitespace
-  documentNewline : InDocumentView Newline InDocument.Newline
-  documentComment : InDocumentView Comment InDocument.Comment
-  documentEof : InDocumentView Eof InDocument.Eof
+pub data InDocumentView (P : Parts) : Kind → InDocument → Type 0 where
+  documentOpenSquare : InDocumentView P LeftSquareBracket InDocument.OpenSquare
+  documentCloseSquare : InDocumentView P RightSquareBracket InDocument.CloseSquare
+  documentKey : {k : Kind} {e : Encoding} → (P (kindByEncoding e) → KeyPart P k) → InDocumentView P k (InDocument.Key e)
+  documentEquals : InDocumentView P Equals InDocument.Equals
+  documentDot : InDocumentView P Dot InDocument.Dot
+  documentStray : {k : Kind} → InDocumentView P k InDocument.Stray
+  documentWhitespace : InDocumentView P Whitespace InDocument.Whitespace
+  documentNewline : InDocumentView P Newline InDocument.Newline
+  documentComment : InDocumentView P Comment InDocument.Comment
+  documentEof : InDocumentView P Eof InDocument.Eof
 
-pub inDocumentView : (k : Kind) → InDocumentView k (inDocument k)
-inDocumentView Dot = documentDot
-inDocumentView Equals = documentEquals
-inDocumentView Comma = documentStray
-inDocumentView LeftSquareBracket = documentOpenSquare
-inDocumentView RightSquareBracket = documentCloseSquare
-inDocumentView LeftCurlyBracket = documentStray
-inDocumentView RightCurlyBracket = documentStray
-inDocumentView Whitespace = documentWhitespace
-inDocumentView Comment = documentComment
-inDocumentView Newline = documentNewline
-inDocumentView LiteralString = documentKey (stringPart literal)
-inDocumentView BasicString = documentKey (stringPart basic)
-inDocumentView MlLiteralString = documentKey (stringPart multiLineLiteral)
-inDocumentView MlBasicString = documentKey (stringPart multiLineBasic)
-inDocumentView Atom = documentKey atomPart
-inDocumentView Eof = documentEof
+pub inDocumentView : (P : Parts) (k : Kind) → InDocumentView P k (inDocument k)
+inDocumentView P Dot = documentDot
+inDocumentView P Equals = documentEquals
+inDocumentView P Comma = documentStray
+inDocumentView P LeftSquareBracket = documentOpenSquare
+inDocumentView P RightSquareBracket = documentCloseSquare
+inDocumentView P LeftCurlyBracket = documentStray
+inDocumentView P RightCurlyBracket = documentStray
+inDocumentView P Whitespace = documentWhitespace
+inDocumentView P Comment = documentComment
+inDocumentView P Newline = documentNewline
+inDocumentView P LiteralString = documentKey (stringPart literal)
+inDocumentView P BasicString = documentKey (stringPart basic)
+inDocumentView P MlLiteralString = documentKey (stringPart multiLineLiteral)
+inDocumentView P MlBasicString = documentKey (stringPart multiLineBasic)
+inDocumentView P Atom = documentKey atomPart
+inDocumentView P Eof = documentEof
 
 -- next_token_if: the kinds are the same, or the test says that they are not
 pub data SameView : Kind → Kind → Bool → Type 0 where

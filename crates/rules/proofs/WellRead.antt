@@ -14,11 +14,11 @@ use Rattle.token.specs.Laid.{Spans, Laid, laidToken}
 use Rattle.rules.specs.declared.event.Event.{Event}
 use Rattle.rules.specs.Out.{Item}
 use Rattle.rules.specs.Words.{eventNumber, eventsOf}
-use Rattle.rules.specs.Quiet.{Quiet}
-use Rattle.rules.specs.Grammar.{stringPart, UnquotedRest, scalarEnds, dotOrAtom, whitespaceAtom}
+use Rattle.rules.specs.Quiet.{KeyIn, Quiet}
+use Rattle.rules.specs.Grammar.{literal, basic, multiLineLiteral, multiLineBasic, Parts, atomPart, stringPart, UnquotedRest, scalarEnds, dotOrAtom, whitespaceAtom}
 use Rattle.rules.specs.Premises.{textEnd, EndToEnd, noEvent, anEvent, OpenBracket, effectOf, Changes, opensOne, closesLast, leavesAll, Nests, nestsNone, nestsEvent, scalarEnd}
 use Rattle.rules.proofs.Reading.{ReadsOne, readsDot, readsEquals, readsComma, readsTableOpen, readsTableClose, readsArrayOpen, readsArrayClose, readsInlineTableOpen, readsInlineTableClose, readsWhitespace, readsNewline, readsComment, readsKey, readsString, ReadsTwo, readsArrayTableOpen, readsArrayTableClose, Reads, readNone, readOne, readTwo, readUnquoted}
-use Rattle.rules.proofs.Suffixes.{NotEof, suffix-length, part-not-eof, dot-or-atom-not-eof, suffix-unquoted}
+use Rattle.rules.proofs.Suffixes.{NotEof, suffix-length, string-not-eof, part-not-eof, dot-or-atom-not-eof, suffix-unquoted}
 
 wide : (k : Kind) {a b : ℕ} → NotEof k → Spans (widthOf k) a b → a < b
 wide Dot n w = omega (arith, w)
@@ -38,7 +38,7 @@ wide MlBasicString n w = w
 wide Atom n w = w
 wide Eof n w = absurd n
 
-one-not-eof : {k : Kind} {g : Event} {σ τ : List OpenBracket} → ReadsOne k g σ τ → NotEof k
+one-not-eof : {P : Parts} {k : Kind} {g : Event} {σ τ : List OpenBracket} → ReadsOne P k g σ τ → NotEof k
 one-not-eof readsDot = tt
 one-not-eof readsEquals = tt
 one-not-eof readsComma = tt
@@ -52,7 +52,32 @@ one-not-eof readsWhitespace = tt
 one-not-eof readsNewline = tt
 one-not-eof readsComment = tt
 one-not-eof (readsKey p) = part-not-eof p
-one-not-eof (readsString s) = part-not-eof (stringPart s)
+one-not-eof (readsString s) = string-not-eof s
+
+-- its key, if it is one, is of a kind that P has
+one-key : {P : Parts} {k : Kind} {g : Event} {σ τ : List OpenBracket} → ReadsOne P k g σ τ → KeyIn P g
+one-key readsDot = tt
+one-key readsEquals = tt
+one-key readsComma = tt
+one-key readsTableOpen = tt
+one-key readsTableClose = tt
+one-key readsArrayOpen = tt
+one-key readsArrayClose = tt
+one-key readsInlineTableOpen = tt
+one-key readsInlineTableClose = tt
+one-key readsWhitespace = tt
+one-key readsNewline = tt
+one-key readsComment = tt
+one-key (readsKey (atomPart l)) = l
+one-key (readsKey (stringPart literal l)) = l
+one-key (readsKey (stringPart basic l)) = l
+one-key (readsKey (stringPart multiLineLiteral l)) = l
+one-key (readsKey (stringPart multiLineBasic l)) = l
+one-key (readsString s) = tt
+
+two-key : (P : Parts) {k : Kind} {g : Event} {σ τ : List OpenBracket} → ReadsTwo k g σ τ → KeyIn P g
+two-key P readsArrayTableOpen = tt
+two-key P readsArrayTableClose = tt
 
 pub two-wide : {k : Kind} {g : Event} {a b : ℕ} {σ τ : List OpenBracket} → ReadsTwo k g σ τ → Spans (widthOf k) a b → b ≡ suc a
 two-wide readsArrayTableOpen w = w
@@ -77,32 +102,32 @@ less-differs : {a b : ℕ} → a < b → a ≡ b → ⊥
 less-differs h e = omega (arith, h, e)
 
 -- what is known of the events that read tokens from p on
-pub record ReadsWell (all : List Tok) (p : ℕ) (is : List Item) (ts rest : List Tok) : Type 0 where
+pub record ReadsWell (P : Parts) (all : List Tok) (p : ℕ) (is : List Item) (ts rest : List Tok) : Type 0 where
   pub end : ℕ
-  pub quiet : Quiet is
+  pub quiet : Quiet P is
   pub endToEnd : EndToEnd p (eventsOf all is) end
   pub laid : Laid end rest
   pub same : textEnd p ts ≡ textEnd end rest
   pub few : length (eventsOf all is) + length rest ≤ length ts
 
-pub reads-well : (all : List Tok) {is : List Item} {ts rest : List Tok} {p : ℕ} {σ τ : List OpenBracket} → Reads is ts rest σ τ → Laid p ts → ReadsWell all p is ts rest
+pub reads-well : {P : Parts} (all : List Tok) {is : List Item} {ts rest : List Tok} {p : ℕ} {σ τ : List OpenBracket} → Reads P is ts rest σ τ → Laid p ts → ReadsWell P all p is ts rest
 reads-well all {p = p} readNone l = record { end = p; quiet = tt; endToEnd = noEvent; laid = l; same = refl; few = omega arith }
 reads-well all (readOne {k = k} o r) (laidToken w l) =
     let h = reads-well all r l in
-    record { end = h .end; quiet = (less-differs (wide k (one-not-eof o) w), h .quiet); endToEnd = anEvent (h .endToEnd); laid = h .laid; same = h .same; few = omega arith }
-reads-well all (readTwo o r) (laidToken w (laidToken x l)) =
+    record { end = h .end; quiet = ((less-differs (wide k (one-not-eof o) w), one-key o), h .quiet); endToEnd = anEvent (h .endToEnd); laid = h .laid; same = h .same; few = omega arith }
+reads-well {P} all (readTwo o r) (laidToken w (laidToken x l)) =
     let h = reads-well all r l in
     let y = two-wide o w in
     let z = two-wide o x in
-    record { end = h .end; quiet = (λ e. omega (arith, y, z, e), h .quiet); endToEnd = anEvent (h .endToEnd); laid = h .laid; same = h .same; few = omega arith }
+    record { end = h .end; quiet = ((λ e. omega (arith, y, z, e), two-key P o), h .quiet); endToEnd = anEvent (h .endToEnd); laid = h .laid; same = h .same; few = omega arith }
 reads-well all {p = p} (readUnquoted {k = k} {b = b} {e = e} {ts = ts} {us = us} d u q r) (laidToken w l) =
     let m : Carried b e ts us = subst (λ x. Carried b x ts us) q (unquoted-laid b u l) in
     let y = wide k (dot-or-atom-not-eof d) w in
     let h = reads-well all r (m .laid) in
     let s = suffix-length (suffix-unquoted u) in
-    record { end = h .end; quiet = (less-differs (omega (arith, m .far, y)), h .quiet); endToEnd = anEvent (h .endToEnd); laid = h .laid; same = m .same ∙ h .same; few = omega arith }
+    record { end = h .end; quiet = ((less-differs (omega (arith, m .far, y)), tt), h .quiet); endToEnd = anEvent (h .endToEnd); laid = h .laid; same = m .same ∙ h .same; few = omega arith }
 
-one-changes : {k : Kind} {g : Event} {σ τ : List OpenBracket} → ReadsOne k g σ τ → Changes σ (effectOf (eventNumber g)) τ
+one-changes : {P : Parts} {k : Kind} {g : Event} {σ τ : List OpenBracket} → ReadsOne P k g σ τ → Changes σ (effectOf (eventNumber g)) τ
 one-changes readsDot = leavesAll
 one-changes readsEquals = leavesAll
 one-changes readsComma = leavesAll
@@ -122,7 +147,7 @@ two-changes : {k : Kind} {g : Event} {σ τ : List OpenBracket} → ReadsTwo k g
 two-changes readsArrayTableOpen = opensOne
 two-changes readsArrayTableClose = closesLast
 
-pub reads-nest : (all : List Tok) {is : List Item} {ts rest : List Tok} {σ τ : List OpenBracket} → Reads is ts rest σ τ → Nests σ (eventsOf all is) τ
+pub reads-nest : {P : Parts} (all : List Tok) {is : List Item} {ts rest : List Tok} {σ τ : List OpenBracket} → Reads P is ts rest σ τ → Nests σ (eventsOf all is) τ
 reads-nest all readNone = nestsNone
 reads-nest all (readOne o r) = nestsEvent (one-changes o) (reads-nest all r)
 reads-nest all (readTwo o r) = nestsEvent (two-changes o) (reads-nest all r)

@@ -1,6 +1,7 @@
--- The token grammar of document 01, sentence by sentence. It is that of TOML 1.0.0, wider in two places: any string may be a part of a key,
--- and whether an unquoted scalar is a number or a date is not judged. `Key ts rest` is read: the tokens ts begin with a key, and rest is
--- what follows it; so for every other name here with two lists. `tok k a b` is a token of kind k from a to b. Assumes nothing.
+-- The token grammar of document 01, sentence by sentence, with the key parts that document 02's T-05 asks for. It is that of TOML 1.0.0,
+-- wider in one place: whether an unquoted scalar is a number or a date is not judged. `Scalar ts rest` is read: the tokens ts begin with a
+-- scalar, and rest is what follows it; so for every other name here with two lists. `tok k a b` is a token of kind k from a to b. Assumes
+-- nothing.
 use Prim.Native.Nat.{ℕ, zero, suc}
 use mathlib.Core.List.{List, [], _∷_}
 use Rattle.token.specs.declared.kind.Kind.{Kind}
@@ -20,19 +21,33 @@ pub data AnyString : Kind → Type 0 where
   multiLineLiteral : AnyString MlLiteralString
   multiLineBasic : AnyString MlBasicString
 
--- "parts (Atom or any string)"
-pub data KeyPart : Kind → Type 0 where
-  atomPart : KeyPart Atom
-  stringPart : {k : Kind} → AnyString k → KeyPart k
+-- which kinds may be parts of a key: the definitions below have it as a parameter, P
+abbrev pub Parts : Type 1
+Parts = Kind → Type 0
+
+-- TOML 1.0.0: a key is bare, or quoted as a basic or a literal string
+pub data SingleLine : Kind → Type 0 where
+  bare : SingleLine Atom
+  quotedBasic : SingleLine BasicString
+  quotedLiteral : SingleLine LiteralString
+
+-- document 01's own grammar, which a run's silence goes by, has no such limit
+abbrev pub AnyKind : Parts
+AnyKind k = Unit {0}
+
+-- "parts (Atom or any string)", of a kind that P has
+pub data KeyPart (P : Parts) : Kind → Type 0 where
+  atomPart : P Atom → KeyPart P Atom
+  stringPart : {k : Kind} → AnyString k → P k → KeyPart P k
 
 -- "joined by Dot with optional ws round it": no or more further parts, each after a Dot
-pub data Dots : List Tok → List Tok → Type 0 where
-  noDot : {ts : List Tok} → Dots ts ts
-  aDot : {ts us vs rest : List Tok} {a b c d : ℕ} {k : Kind} → OptWhitespace ts (tok Dot a b ∷ us) → OptWhitespace us (tok k c d ∷ vs) → KeyPart k → Dots vs rest → Dots ts rest
+pub data Dots (P : Parts) : List Tok → List Tok → Type 0 where
+  noDot : {ts : List Tok} → Dots P ts ts
+  aDot : {ts us vs rest : List Tok} {a b c d : ℕ} {k : Kind} → OptWhitespace ts (tok Dot a b ∷ us) → OptWhitespace us (tok k c d ∷ vs) → KeyPart P k → Dots P vs rest → Dots P ts rest
 
 -- "Key: parts joined by Dot"
-pub data Key : List Tok → List Tok → Type 0 where
-  aKey : {ts rest : List Tok} {a b : ℕ} {k : Kind} → KeyPart k → Dots ts rest → Key (tok k a b ∷ ts) rest
+pub data Key (P : Parts) : List Tok → List Tok → Type 0 where
+  aKey : {ts rest : List Tok} {a b : ℕ} {k : Kind} → KeyPart P k → Dots P ts rest → Key P (tok k a b ∷ ts) rest
 
 -- "Scalar: the token sequence of the recovery rule", which is: "a string alone; or Dot or Atom, then any of Dot, Atom, or Whitespace
 -- followed by Atom"
@@ -79,29 +94,29 @@ pub data ArrayInside (N : Inside) : List Tok → List Tok → Type 0 where
   someValues : {ts us rest : List Tok} → Gap ts us → ArrayValues N us rest → ArrayInside N ts rest
 
 -- "Pair: key, ws?, Equals, ws?, value"
-pub data Pair (N : Inside) : List Tok → List Tok → Type 0 where
-  aPair : {ts us vs ws rest : List Tok} {a b : ℕ} → Key ts us → OptWhitespace us (tok Equals a b ∷ vs) → OptWhitespace vs ws → Value N ws rest → Pair N ts rest
+pub data Pair (P : Parts) (N : Inside) : List Tok → List Tok → Type 0 where
+  aPair : {ts us vs ws rest : List Tok} {a b : ℕ} → Key P ts us → OptWhitespace us (tok Equals a b ∷ vs) → OptWhitespace vs ws → Value N ws rest → Pair P N ts rest
 
 -- "pairs separated by Comma with ws? round each, then `}`": from a pair on
-pub data Pairs (N : Inside) : List Tok → List Tok → Type 0 where
-  lastPair : {ts us rest : List Tok} {a b : ℕ} → Pair N ts us → OptWhitespace us (tok RightCurlyBracket a b ∷ rest) → Pairs N ts rest
-  morePairs : {ts us vs ws rest : List Tok} {a b : ℕ} → Pair N ts us → OptWhitespace us (tok Comma a b ∷ vs) → OptWhitespace vs ws → Pairs N ws rest → Pairs N ts rest
+pub data Pairs (P : Parts) (N : Inside) : List Tok → List Tok → Type 0 where
+  lastPair : {ts us rest : List Tok} {a b : ℕ} → Pair P N ts us → OptWhitespace us (tok RightCurlyBracket a b ∷ rest) → Pairs P N ts rest
+  morePairs : {ts us vs ws rest : List Tok} {a b : ℕ} → Pair P N ts us → OptWhitespace us (tok Comma a b ∷ vs) → OptWhitespace vs ws → Pairs P N ws rest → Pairs P N ts rest
 
 -- "Inline table: `{` ws? then nothing, or pairs": what follows the `{`
-pub data TableInside (N : Inside) : List Tok → List Tok → Type 0 where
-  noPairs : {ts rest : List Tok} {a b : ℕ} → OptWhitespace ts (tok RightCurlyBracket a b ∷ rest) → TableInside N ts rest
-  somePairs : {ts us rest : List Tok} → OptWhitespace ts us → Pairs N us rest → TableInside N ts rest
+pub data TableInside (P : Parts) (N : Inside) : List Tok → List Tok → Type 0 where
+  noPairs : {ts rest : List Tok} {a b : ℕ} → OptWhitespace ts (tok RightCurlyBracket a b ∷ rest) → TableInside P N ts rest
+  somePairs : {ts us rest : List Tok} → OptWhitespace ts us → Pairs P N us rest → TableInside P N ts rest
 
 -- "Header: `[` ws? key ws? `]`, or the same with two adjacent brackets each side"
-pub data Header : List Tok → List Tok → Type 0 where
-  tableHeader : {ts us vs rest : List Tok} {a b c d : ℕ} → OptWhitespace ts us → Key us vs → OptWhitespace vs (tok RightSquareBracket c d ∷ rest) → Header (tok LeftSquareBracket a b ∷ ts) rest
-  arrayTableHeader : {ts us vs rest : List Tok} {a b c d e f g h : ℕ} → OptWhitespace ts us → Key us vs → OptWhitespace vs (tok RightSquareBracket e f ∷ tok RightSquareBracket g h ∷ rest) → Header (tok LeftSquareBracket a b ∷ tok LeftSquareBracket c d ∷ ts) rest
+pub data Header (P : Parts) : List Tok → List Tok → Type 0 where
+  tableHeader : {ts us vs rest : List Tok} {a b c d : ℕ} → OptWhitespace ts us → Key P us vs → OptWhitespace vs (tok RightSquareBracket c d ∷ rest) → Header P (tok LeftSquareBracket a b ∷ ts) rest
+  arrayTableHeader : {ts us vs rest : List Tok} {a b c d e f g h : ℕ} → OptWhitespace ts us → Key P us vs → OptWhitespace vs (tok RightSquareBracket e f ∷ tok RightSquareBracket g h ∷ rest) → Header P (tok LeftSquareBracket a b ∷ tok LeftSquareBracket c d ∷ ts) rest
 
 -- "nothing, pair or header"
-pub data Expression (N : Inside) : List Tok → List Tok → Type 0 where
-  noExpression : {ts : List Tok} → Expression N ts ts
-  pairExpression : {ts rest : List Tok} → Pair N ts rest → Expression N ts rest
-  headerExpression : {ts rest : List Tok} → Header ts rest → Expression N ts rest
+pub data Expression (P : Parts) (N : Inside) : List Tok → List Tok → Type 0 where
+  noExpression : {ts : List Tok} → Expression P N ts ts
+  pairExpression : {ts rest : List Tok} → Pair P N ts rest → Expression P N ts rest
+  headerExpression : {ts rest : List Tok} → Header P ts rest → Expression P N ts rest
 
 -- "optional Comment"
 pub data OptComment : List Tok → List Tok → Type 0 where
@@ -109,24 +124,34 @@ pub data OptComment : List Tok → List Tok → Type 0 where
   aComment : {a b : ℕ} {ts : List Tok} → OptComment (tok Comment a b ∷ ts) ts
 
 -- "Line: optional ws, then nothing, pair or header, optional ws, optional Comment"
-pub data Line (N : Inside) : List Tok → List Tok → Type 0 where
-  aLine : {ts us vs ws rest : List Tok} → OptWhitespace ts us → Expression N us vs → OptWhitespace vs ws → OptComment ws rest → Line N ts rest
+pub data Line (P : Parts) (N : Inside) : List Tok → List Tok → Type 0 where
+  aLine : {ts us vs ws rest : List Tok} → OptWhitespace ts us → Expression P N us vs → OptWhitespace vs ws → OptComment ws rest → Line P N ts rest
 
 -- "then Newline or the final Eof": a document is lines
-pub data Document (N : Inside) : List Tok → Type 0 where
-  lineAndMore : {ts rest : List Tok} {a b : ℕ} → Line N ts (tok Newline a b ∷ rest) → Document N rest → Document N ts
-  lastLine : {ts : List Tok} {a b : ℕ} → Line N ts (tok Eof a b ∷ []) → Document N ts
+pub data Document (P : Parts) (N : Inside) : List Tok → Type 0 where
+  lineAndMore : {ts rest : List Tok} {a b : ℕ} → Line P N ts (tok Newline a b ∷ rest) → Document P N rest → Document P N ts
+  lastLine : {ts : List Tok} {a b : ℕ} → Line P N ts (tok Eof a b ∷ []) → Document P N ts
 
 -- what an opening bracket may be followed by where at most n arrays and inline tables are open within one another, with its own
-unfoldable pub Nested : ℕ → Inside
-Nested zero bracket ts rest = ⊥
-Nested (suc n) Bracket.Square ts rest = ArrayInside (Nested n) ts rest
-Nested (suc n) Bracket.Curly ts rest = TableInside (Nested n) ts rest
+unfoldable pub Nested : Parts → ℕ → Inside
+Nested P zero bracket ts rest = ⊥
+Nested P (suc n) Bracket.Square ts rest = ArrayInside (Nested P n) ts rest
+Nested P (suc n) Bracket.Curly ts rest = TableInside P (Nested P n) ts rest
 
--- the list fits the grammar, with at most n arrays and inline tables open within one another
+-- the list fits the grammar with these key parts, with at most n arrays and inline tables open within one another
+abbrev pub FitsBy : Parts → ℕ → List Tok → Type 0
+FitsBy P n ts = Document P (Nested P n) ts
+
+-- the list fits the grammar: no key is a multi-line string
 abbrev pub FitsWithin : ℕ → List Tok → Type 0
-FitsWithin n ts = Document (Nested n) ts
+FitsWithin n ts = FitsBy SingleLine n ts
 
--- the list fits the grammar
 abbrev pub Fits : List Tok → Type 0
 Fits ts = (n : ℕ) × FitsWithin n ts
+
+-- the list fits the wide grammar, document 01's own, in which a key may be a multi-line string
+abbrev pub FitsWideWithin : ℕ → List Tok → Type 0
+FitsWideWithin n ts = FitsBy AnyKind n ts
+
+abbrev pub FitsWide : List Tok → Type 0
+FitsWide ts = (n : ℕ) × FitsWideWithin n ts

@@ -16,10 +16,10 @@ pub mod Document
 pub mod Entries
 pub mod Words
 pub mod Answer
-pub mod Quiet
 pub mod TextWords
 pub mod Texts
 pub mod Grammar
+pub mod Quiet
 pub mod Premises
 pub mod RuledOut
 pub mod Costs

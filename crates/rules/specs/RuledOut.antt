@@ -1,7 +1,7 @@
 -- What the definitions of demand 3 rule out: an example for each, refuted by a function of src/ruled_out.rt. Assumes nothing.
 use Prim.Native.Nat.{ℕ}
 use mathlib.Core.List.{List, [], _∷_}
-use Rattle.token.specs.declared.kind.Kind.the-variants.{Dot, Equals, Atom, Eof}
+use Rattle.token.specs.declared.kind.Kind.the-variants.{Dot, Equals, LeftSquareBracket, RightSquareBracket, MlBasicString, Atom, Eof}
 use Rattle.token.specs.Tokens.{Tok, tok}
 
 -- two Whitespace events, with a place between them that no event has
@@ -28,3 +28,7 @@ keyEvents = (5 ∷ 0 ∷ 0 ∷ 3 ∷ []) ∷ (7 ∷ 0 ∷ 3 ∷ 4 ∷ []) ∷ (8
 -- `a=`: a pair without a value
 abbrev pub withoutValue : List Tok
 withoutValue = tok Atom 0 1 ∷ tok Equals 1 2 ∷ tok Eof 2 2 ∷ []
+
+-- `[""""""]`: a header whose key is a multi-line string, the shortest list with such a key
+abbrev pub multiLineHeader : List Tok
+multiLineHeader = tok LeftSquareBracket 0 1 ∷ tok MlBasicString 1 7 ∷ tok RightSquareBracket 7 8 ∷ tok Eof 8 8 ∷ []

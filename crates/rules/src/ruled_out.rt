@@ -1,9 +1,9 @@
 // What the definitions of demand 3 rule out, an example for each: a weaker definition would let it in. Each is the contract of a function
 // that does nothing.
 ghost use mathlib.Core.List.{[]};
-ghost use Rattle.rules.specs.Grammar.{Fits};
+ghost use Rattle.rules.specs.Grammar.{Fits, FitsWide};
 ghost use Rattle.rules.specs.Premises.{EndToEnd, Nests, SameButForCuts};
-ghost use Rattle.rules.specs.RuledOut.{withGap, crossing, keyEvents, keyWhole, keyCut, withoutValue};
+ghost use Rattle.rules.specs.RuledOut.{withGap, crossing, keyEvents, keyWhole, keyCut, withoutValue, multiLineHeader};
 
 // Events with a place between them that none has do not lie end to end.
 pub fn gap_not_end_to_end()
@@ -23,4 +23,13 @@ pub fn key_cut_not_same()
 // A pair without a value does not fit, however deep the nesting that is allowed.
 pub fn without_value_does_not_fit()
     ensures { λ _. ⌜ (Fits withoutValue → ⊥) ⌝ }
+{}
+
+// A multi-line string is no key, though a run over it is quiet: it fits the wide grammar.
+pub fn multi_line_key_does_not_fit()
+    ensures { λ _. ⌜ (Fits multiLineHeader → ⊥) ⌝ }
+{}
+
+pub fn multi_line_key_fits_wide()
+    ensures { λ _. ⌜ FitsWide multiLineHeader ⌝ }
 {}

@@ -8,7 +8,7 @@ use Rattle.token.specs.Tokens.{Tok, tok, allTokens}
 use Rattle.token.specs.Laid.{endOf}
 use Rattle.rules.specs.Limits.{maxDepth}
 use Rattle.rules.specs.Answer.{Outcome}
-use Rattle.rules.specs.Quiet.{QuietRun}
+use Rattle.rules.specs.Quiet.{QuietRun, NoMultiLineKey}
 use Rattle.rules.specs.Grammar.{FitsWithin, Fits}
 use Rattle.rules.specs.Premises.{NestedWithin, Regular, Ready, documentRun, textEnd, eventsLeft, EndToEnd, Nests, SameButForCuts}
 use Rattle.lex.specs.declared.Lexed.{Lexed}
@@ -19,6 +19,10 @@ use Rattle.text_rules.specs.TextOutcome.{textOutcome, textRun}
 use Rattle.text_rules.specs.TextPremises.{TextReady}
 use Rattle.text_rules.specs.LexedLaws.{lexed-base}
 use Rattle.text_rules.specs.RunLaws.{base-is, refused-beyond, refusal-none, run-is, tokens-are, regular-are, few-pass}
+
+-- of a run: it is quiet, and no key is a multi-line string
+abbrev Clean : Outcome → Type 0
+Clean o = QuietRun o × NoMultiLineKey o
 
 -- two names of where tokens end
 same-end : (p : ℕ) (ts : List Tok) → endOf p ts ≡ textEnd p ts
@@ -72,18 +76,18 @@ module _ (text records events errors : List ℕ) (r : Lexed) (after : List ℕ) 
     both-ways f g h k x = (λ a. k (x .0 (f a)), λ c. g (x .1 (h c)))
 
     -- a theorem about the records gives it of the text
-    pub fits-of : (Regular (allTokens bytes (r .base)) → QuietRun inner → Fits (allTokens bytes (r .base))) → QuietRun run → Fits (tokensOf text)
-    fits-of x q = subst Fits tokens (x regular (inner-quiet q))
+    pub fits-of : (Regular (allTokens bytes (r .base)) → QuietRun inner → NoMultiLineKey inner → Fits (allTokens bytes (r .base))) → QuietRun run → NoMultiLineKey run → Fits (tokensOf text)
+    fits-of x q k = subst Fits tokens (x regular (inner-quiet q) (subst NoMultiLineKey is-inner k))
 
-    pub exactly-of : (P : List Tok → Type 0) → QuietRun inner ↔ P (allTokens bytes (r .base)) → QuietRun run ↔ P (tokensOf text)
-    exactly-of P x = both-ways inner-quiet (subst QuietRun (sym is-inner)) (subst P (sym tokens)) (subst P tokens) x
+    exactly-of : (P : List Tok → Type 0) → Clean inner ↔ P (allTokens bytes (r .base)) → Clean run ↔ P (tokensOf text)
+    exactly-of P x = both-ways (subst Clean is-inner) (subst Clean (sym is-inner)) (subst P (sym tokens)) (subst P tokens) x
 
-    pub exactly-within-of : (Ready bytes (r .base) events errors → QuietRun inner ↔ FitsWithin maxDepth (allTokens bytes (r .base)))
-        → TextReady text records events errors → QuietRun run ↔ FitsWithin maxDepth (tokensOf text)
+    pub exactly-within-of : (Ready bytes (r .base) events errors → Clean inner ↔ FitsWithin maxDepth (allTokens bytes (r .base)))
+        → TextReady text records events errors → Clean run ↔ FitsWithin maxDepth (tokensOf text)
     exactly-within-of x y = exactly-of (FitsWithin maxDepth) (x (ready y))
 
-    pub exactly-fits-of : (Ready bytes (r .base) events errors → NestedWithin maxDepth (allTokens bytes (r .base)) → QuietRun inner ↔ Fits (allTokens bytes (r .base)))
-        → TextReady text records events errors → NestedWithin maxDepth (tokensOf text) → QuietRun run ↔ Fits (tokensOf text)
+    pub exactly-fits-of : (Ready bytes (r .base) events errors → NestedWithin maxDepth (allTokens bytes (r .base)) → Clean inner ↔ Fits (allTokens bytes (r .base)))
+        → TextReady text records events errors → NestedWithin maxDepth (tokensOf text) → Clean run ↔ Fits (tokensOf text)
     exactly-fits-of x y n = exactly-of Fits (x (ready y) (subst (NestedWithin maxDepth) (sym tokens) n))
 
     pub ends-of : (Regular (allTokens bytes (r .base)) → QuietRun inner → EndToEnd (r .base) (eventsLeft inner) (textEnd (r .base) (allTokens bytes (r .base))))

@@ -12,7 +12,7 @@ ghost use mathlib.Core.Logic.{_↔_};
 ghost use mathlib.Core.List.{[]};
 ghost use lib.ListN.{length};
 ghost use Rattle.rules.specs.Limits.{maxDepth};
-ghost use Rattle.rules.specs.Quiet.{QuietRun};
+ghost use Rattle.rules.specs.Quiet.{QuietRun, NoMultiLineKey};
 ghost use Rattle.rules.specs.Grammar.{FitsWithin, Fits};
 ghost use Rattle.rules.specs.Premises.{NestedWithin, Regular, eventsLeft, EndToEnd, Nests, SameButForCuts};
 ghost use Rattle.scan.specs.Lexer.{tokensOf};
@@ -40,9 +40,10 @@ pub fn text_tokens_are_regular(text: &[u8])
     ensures { λ _. ⌜ Regular (tokensOf (now (text .entry))) ⌝ }
 {}
 
-// If the run over a text is quiet, its tokens fit the token grammar. Nothing is supposed but the run.
+// If the run over a text is quiet and has no multi-line key, its tokens fit the token grammar. Nothing is supposed but the run.
 pub fn quiet_text_fits(text: &[u8], records: &mut [u8], events: &[u32], errors: &[u32])
     ensures { λ _. ⌜ (QuietRun (textRun (now (text .entry)) (now (records .entry)) (now (events .entry)) (now (errors .entry)))
+        → NoMultiLineKey (textRun (now (text .entry)) (now (records .entry)) (now (events .entry)) (now (errors .entry)))
         → Fits (tokensOf (now (text .entry)))) ⌝ }
 {
     let lexed = lex(text, records);
@@ -54,7 +55,8 @@ pub fn quiet_text_fits(text: &[u8], records: &mut [u8], events: &[u32], errors: 
     }
 }
 
-// Within the limits and with room the run is quiet exactly when the text's tokens fit the grammar with at most 64 arrays and inline tables open.
+// Within the limits and with room the run is quiet and has no multi-line key exactly when the text's tokens fit the grammar with at most 64 arrays
+// and inline tables open.
 pub fn text_quiet_exactly_when_fits_within(
     text: &[u8],
     records: &mut [u8],
@@ -62,7 +64,7 @@ pub fn text_quiet_exactly_when_fits_within(
     errors: &[u32],
 )
     ensures { λ _. ⌜ (TextReady (now (text .entry)) (now (records .entry)) (now (events .entry)) (now (errors .entry))
-        → (QuietRun (textRun (now (text .entry)) (now (records .entry)) (now (events .entry)) (now (errors .entry))) ↔ FitsWithin maxDepth (tokensOf (now (text .entry))))) ⌝ }
+        → ((QuietRun (textRun (now (text .entry)) (now (records .entry)) (now (events .entry)) (now (errors .entry))) × NoMultiLineKey (textRun (now (text .entry)) (now (records .entry)) (now (events .entry)) (now (errors .entry)))) ↔ FitsWithin maxDepth (tokensOf (now (text .entry))))) ⌝ }
 {
     let lexed = lex(text, records);
     let refusal = lexed.refusal;
@@ -73,11 +75,11 @@ pub fn text_quiet_exactly_when_fits_within(
     }
 }
 
-// The same with the depth as a premise on the tokens: quiet exactly when they fit.
+// The same with the depth as a premise on the tokens: quiet without a multi-line key exactly when they fit.
 pub fn text_quiet_exactly_when_fits(text: &[u8], records: &mut [u8], events: &[u32], errors: &[u32])
     ensures { λ _. ⌜ (TextReady (now (text .entry)) (now (records .entry)) (now (events .entry)) (now (errors .entry))
         → NestedWithin maxDepth (tokensOf (now (text .entry)))
-        → (QuietRun (textRun (now (text .entry)) (now (records .entry)) (now (events .entry)) (now (errors .entry))) ↔ Fits (tokensOf (now (text .entry))))) ⌝ }
+        → ((QuietRun (textRun (now (text .entry)) (now (records .entry)) (now (events .entry)) (now (errors .entry))) × NoMultiLineKey (textRun (now (text .entry)) (now (records .entry)) (now (events .entry)) (now (errors .entry)))) ↔ Fits (tokensOf (now (text .entry))))) ⌝ }
 {
     let lexed = lex(text, records);
     let refusal = lexed.refusal;

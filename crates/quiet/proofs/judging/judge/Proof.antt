@@ -55,8 +55,8 @@ returns-2 c =
     let u : unjudged ((c .before .before .before .before .before .before .before .read-document) .result .refusal) ≡ false = cc in
     rw ((c .answered2) .ensures) (too-little ((c .before .before .before .before .before .before .before .before .before .before .before .before .before .before .before .before .before .before .args) .records .now) ((c .before .before .before .before .before .before .before .before .before .before .before .before .before .before .before .before .before .before .args) .base) ((c .before .before .before .before .before .before .before .before .before .before .before .before .before .before .before .before .before .before .args) .events .now) _ _ _ ((c .before .before .before .before .before .before .before .read-document) .ensures) (record { within = (c .before .before .before .before .before .before .before .before .before .before .before .before .before .quiet-exactly-when-fits-within) .ensures; quiet = (c .before .before .before .before .before .before .before .before .before .before .fits-then-quiet) .ensures }) u (omega (arith, (c .before .if2) .taken, ((c .before .before .before .before .before .before .before .read-document) .kept .1 .1 .0))))
 
-is-quiet-requires : tie.Need-is-quiet-requires
-is-quiet-requires c κs = search needs
+is-quiet-without-multi-line-key-requires : tie.Need-is-quiet-without-multi-line-key-requires
+is-quiet-without-multi-line-key-requires c κs = search needs
 
 answered-requires-3 : tie.Need-answered-requires-3
 answered-requires-3 c κs = search needs
@@ -67,7 +67,7 @@ same-length-3 c = search needs
 returns-3 : tie.Need-returns-3
 returns-3 c =
     let u : unjudged ((c .before .before .before .before .before .before .before .before .before .read-document) .result .refusal) ≡ false = cc in
-    rw ((c .answered3) .ensures) (by-the-run ((c .before .before .before .before .before .before .before .before .before .before .before .before .before .before .before .before .before .before .before .before .args) .records .now) ((c .before .before .before .before .before .before .before .before .before .before .before .before .before .before .before .before .before .before .before .before .args) .base) ((c .before .before .before .before .before .before .before .before .before .before .before .before .before .before .before .before .before .before .before .before .args) .events .now) _ _ _ ((c .before .before .before .before .before .before .before .before .before .read-document) .ensures) (record { within = (c .before .before .before .before .before .before .before .before .before .before .before .before .before .before .before .quiet-exactly-when-fits-within) .ensures; quiet = (c .before .before .before .before .before .before .before .before .before .before .before .before .fits-then-quiet) .ensures }) u (omega (arith, (c .before .before .before .if2) .left, ((c .before .before .before .before .before .before .before .before .before .read-document) .kept .1 .1 .0))) _ ((c .before .before .before .before .before .before .before .before .before .before .before .before .before .before .before .before .before .before .before .before .pre) .1) ((c .before .is-quiet) .ensures))
+    rw ((c .answered3) .ensures) (by-the-run ((c .before .before .before .before .before .before .before .before .before .before .before .before .before .before .before .before .before .before .before .before .args) .records .now) ((c .before .before .before .before .before .before .before .before .before .before .before .before .before .before .before .before .before .before .before .before .args) .base) ((c .before .before .before .before .before .before .before .before .before .before .before .before .before .before .before .before .before .before .before .before .args) .events .now) _ _ _ ((c .before .before .before .before .before .before .before .before .before .read-document) .ensures) (record { within = (c .before .before .before .before .before .before .before .before .before .before .before .before .before .before .before .quiet-exactly-when-fits-within) .ensures; quiet = (c .before .before .before .before .before .before .before .before .before .before .before .before .fits-then-quiet) .ensures }) u (omega (arith, (c .before .before .before .if2) .left, ((c .before .before .before .before .before .before .before .before .before .read-document) .kept .1 .1 .0))) _ ((c .before .before .before .before .before .before .before .before .before .before .before .before .before .before .before .before .before .before .before .before .pre) .1) ((c .before .is-quiet-without-multi-line-key) .ensures))
 
 pub judge-spec : {M : Type 1} → statement M
 judge-spec =
@@ -86,7 +86,7 @@ judge-spec =
     answered-requires-2
     same-length-2
     returns-2
-    is-quiet-requires
+    is-quiet-without-multi-line-key-requires
     answered-requires-3
     same-length-3
     returns-3)

@@ -58,8 +58,8 @@ returns-2 c =
 is-regular-requires : tie.Need-is-regular-requires
 is-regular-requires c κs = search needs
 
-is-quiet-requires : tie.Need-is-quiet-requires
-is-quiet-requires c κs = search needs
+is-quiet-without-multi-line-key-requires : tie.Need-is-quiet-without-multi-line-key-requires
+is-quiet-without-multi-line-key-requires c κs = search needs
 
 answered-requires-3 : tie.Need-answered-requires-3
 answered-requires-3 c κs = search needs
@@ -70,7 +70,7 @@ same-length-3 c = search needs
 returns-3 : tie.Need-returns-3
 returns-3 c =
     let u : unjudged ((c .before .before .before .before .before .before .before .before .before .before .before .parse-document) .result .refusal) ≡ false = cc in
-    rw ((c .answered3) .ensures) (by-the-run ((c .before .before .before .before .before .before .before .before .before .before .before .before .before .before .before .before .before .before .before .before .before .before .args) .records .now) ((c .before .before .before .before .before .before .before .before .before .before .before .before .before .before .before .before .before .before .before .before .before .before .args) .base) ((c .before .before .before .before .before .before .before .before .before .before .before .before .before .before .before .before .before .before .before .before .before .before .args) .events .now) _ _ _ ((c .before .before .before .before .before .before .before .before .before .before .before .parse-document) .ensures) (record { within = (c .before .before .before .before .before .before .before .before .before .before .before .before .before .before .before .before .before .quiet-exactly-when-fits-within) .ensures; quiet = (c .before .before .before .before .before .before .before .before .before .before .before .before .before .before .fits-then-quiet) .ensures }) u (omega (arith, (c .before .before .before .before .before .if2) .left, ((c .before .before .before .before .before .before .before .before .before .before .before .parse-document) .kept .1 .1 .0))) _ ((c .before .before .before .before .is-regular) .ensures .0 ((c .before .before .before .if3) .taken)) ((c .before .is-quiet) .ensures))
+    rw ((c .answered3) .ensures) (by-the-run ((c .before .before .before .before .before .before .before .before .before .before .before .before .before .before .before .before .before .before .before .before .before .before .args) .records .now) ((c .before .before .before .before .before .before .before .before .before .before .before .before .before .before .before .before .before .before .before .before .before .before .args) .base) ((c .before .before .before .before .before .before .before .before .before .before .before .before .before .before .before .before .before .before .before .before .before .before .args) .events .now) _ _ _ ((c .before .before .before .before .before .before .before .before .before .before .before .parse-document) .ensures) (record { within = (c .before .before .before .before .before .before .before .before .before .before .before .before .before .before .before .before .before .quiet-exactly-when-fits-within) .ensures; quiet = (c .before .before .before .before .before .before .before .before .before .before .before .before .before .before .fits-then-quiet) .ensures }) u (omega (arith, (c .before .before .before .before .before .if2) .left, ((c .before .before .before .before .before .before .before .before .before .before .before .parse-document) .kept .1 .1 .0))) _ ((c .before .before .before .before .is-regular) .ensures .0 ((c .before .before .before .if3) .taken)) ((c .before .is-quiet-without-multi-line-key) .ensures))
 
 answered-requires-4 : tie.Need-answered-requires-4
 answered-requires-4 c κs = search needs
@@ -101,7 +101,7 @@ fits-spec =
     same-length-2
     returns-2
     is-regular-requires
-    is-quiet-requires
+    is-quiet-without-multi-line-key-requires
     answered-requires-3
     same-length-3
     returns-3

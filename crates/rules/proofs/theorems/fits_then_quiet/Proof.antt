@@ -1,10 +1,12 @@
--- By OutcomeTheorems.antt.
+-- By OutcomeTheorems.antt, for a quiet run without a multi-line key.
+use Rattle.rules.specs.Entries.{documentEntry}
+use Rattle.rules.proofs.KeyWords.{single-line-iff}
 use Rattle.rules.proofs.OutcomeTheorems.{roomy-fits-quiet}
 use Rattle.rules.proofs.theorems.fits_then_quiet.Statement.{statement}
 use Rattle.rules.proofs.theorems.fits_then_quiet.Tie as tie
 
 returns : tie.Need-returns
-returns c = roomy-fits-quiet (c .args .s .now) (c .args .base) (c .args .events .now) (c .args .errors .now)
+returns c = roomy-fits-quiet (c .args .s .now) (c .args .base) (c .args .events .now) (c .args .errors .now) (single-line-iff documentEntry (c .args .s .now) (c .args .base) (c .args .events .now) (c .args .errors .now))
 
 pub fits-then-quiet-spec : {M : Type 1} → statement M
 fits-then-quiet-spec = tie.close (tie.spec returns)
