@@ -1,0 +1,59 @@
+"""Shows what is known at each need, and begins a template."""
+import os
+
+import filling
+from template import unnumbered
+
+
+def short_name(walk, need):
+    """The name of a need by its way, with as few places as tell it from the others of its kind: cases first, and the latest that do."""
+    kind, alike = unnumbered(need), [other for other in walk.places.needs if unnumbered(other) == unnumbered(need)]
+    if len(alike) == 1:
+        return need[len('Need-'):]
+    marks = [names[0] for names in walk.landmarks(need)]
+    late = sorted(reversed(range(len(marks))), key=lambda at: not marks[at][0].isupper())
+    choices = [[marks[at]] for at in late] + [[marks[a], marks[b]] for a in late for b in late if a < b]
+    for places in choices:
+        if [other for other in alike if walk.fits(other, places)] == [need]:
+            return '@'.join([kind[len('Need-'):]] + places)
+    return need[len('Need-'):]
+
+
+def show(walks, only):
+    """Every need: its name by its way, the way, and, for one that is asked for, each named thing with the path to it."""
+    for owner, walk in walks.items():
+        for need in walk.places.needs:
+            name = need[len('Need-'):]
+            if only and only not in (need, name, owner + '-' + name):
+                continue
+            print('%s   %s' % (name, short_name(walk, need) if short_name(walk, need) != name else ''))
+            print('    way: ' + ' '.join(names[0] for names in walk.landmarks(need)))
+            if only:
+                things(walk, need)
+
+
+def things(walk, need):
+    seen = set()
+    for place, step in walk.places.way(need):
+        for field in walk.places.fields.get(place, []):
+            if field not in seen:
+                print('    @%-27s %s .%s' % (field, step, field))
+            seen.add(field)
+        print('    @@%-26s %s' % (place, step))
+
+
+def begin(proof):
+    """A Proof.tmpl with a hole for each need that has no number, or a name by its way."""
+    path = os.path.join(proof.home, 'Proof.tmpl')
+    if os.path.exists(path):
+        raise SystemExit('proofs: %s is there' % path)
+    lines = ['-- TODO', '']
+    for owner, walk in proof.walks.items():
+        before = owner + '-' if owner else ''
+        lines += ['μ-%s κs a = ?\n' % owner] if owner else []
+        lines += ['%s%s-%s = ?\n' % (before, kind, loop) for loop in walk.places.loops for kind in ('Inv', 'μ')]
+        lines += ['%s%s%s = ?\n' % (before, short_name(walk, need), filling.takes(need)) for need in walk.places.needs]
+    os.makedirs(proof.home, exist_ok=True)
+    with open(path, 'w', encoding='utf-8') as file:
+        file.write('\n'.join(lines))
+    print('began', path)
