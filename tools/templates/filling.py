@@ -3,13 +3,11 @@ the prover knows comes from `facts`: those of the generated files (Facts), or th
 import re
 
 import generated
-import template as templates
-import ways
 
 MADE = '-- Made by ./proofs from Proof.tmpl: change that.'
 SEARCH = 'use borrow.Author.Needs.{needs}'
-NAMED = re.compile(r'(?:(?P<way>\w+)@(?P<case>\w+):(?P<part>[\w·-]+)|(?P<marks>@@?)(?P<name>[\w·-]+)(?::(?P<kind>[\w·]+))?(?P<near>#?))'
-                   r'(?:\.kept-(?P<kept>[\w·-]+))?')
+NAMED = re.compile(r'(?:λ (?P<bound>\w+)@(?P<case>\w+)\.|(?<![\w@:])(?P<way>\w+):(?P<part>[\w·-]+)'
+                   r'|(?P<marks>@@?)(?P<name>[\w·-]+)(?::(?P<kind>[\w·<>!+*/%-]+))?(?P<near>#?))(?:\.kept-(?P<kept>[\w·-]+))?')
 
 
 class Part:
@@ -21,6 +19,11 @@ class Part:
     def need(self):
         """The name of the need within its function."""
         return self.name[len(self.owner) + 1:] if self.owner else self.name
+
+
+def squeezed(text):
+    """The text without what rt fmt changes: blanks and line ends, and separators before a line's end."""
+    return re.sub(r'[\s;]', '', text).replace(',)', ')')
 
 
 def takes(need):
@@ -109,20 +112,25 @@ class Facts:
         return ''.join(' ' + name for name in names or [])
 
     def put(self, part, text):
-        """The text with a path for each name."""
-        walk, need = self.walks.get(part.owner), 'Need-' + part.need()
+        """The text with a path for each name. `λ w@CASE.` says which way through a join w is, up to the next one."""
+        walk, need, cases = self.walks.get(part.owner), 'Need-' + part.need(), {}
 
         def path(m):
-            found = self.path(walk, need, m)
+            if m['bound']:
+                cases[m['bound']] = m['case']
+                return 'λ %s.' % m['bound']
+            if m['way'] and m['way'] not in cases:
+                return m[0]
+            found = self.path(walk, need, m, cases)
             if found is None:
                 self.missing.append('%s: there is nothing named %s' % (part.name, m[0]))
             return found or '?'
         return NAMED.sub(path, text) if walk else text
 
-    def path(self, walk, need, m):
+    def path(self, walk, need, m, cases):
         kept = walk.kept(m['part'] or m['name'], m['kept']) if m['kept'] else ''
         if m['way']:
-            found = walk.join(need, m['case'], m['part'])
+            found = walk.join(need, cases[m['way']], m['part'])
             found = found and m['way'] + found
         elif m['marks'] == '@@' and m['name'] == 'poured':
             found = walk.poured(need)

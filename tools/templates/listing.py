@@ -10,7 +10,7 @@ def short_name(walk, need):
     kind, alike = unnumbered(need), [other for other in walk.places.needs if unnumbered(other) == unnumbered(need)]
     if len(alike) == 1:
         return need[len('Need-'):]
-    marks = [names[0] for names in walk.landmarks(need)]
+    marks = [name for names in walk.landmarks(need) for name in names if '=' not in name and '::' not in name]
     late = sorted(reversed(range(len(marks))), key=lambda at: not marks[at][0].isupper())
     choices = [[marks[at]] for at in late] + [[marks[a], marks[b]] for a in late for b in late if a < b]
     for places in choices:

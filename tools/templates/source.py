@@ -17,8 +17,8 @@ class Function:
         return ONE_ITEM.search(re.sub(r'\s+', ' ', self.contract)) is not None
 
     def conditions(self):
-        """The words of each `if`, in the order of the text, which is the order the prover counts them in."""
-        return [set(re.findall(r'[A-Za-z_]\w*', test)) for test in re.findall(r'\bif\b([^{]*)\{', self.body)]
+        """The condition of each `if`, without blanks, in the order of the text, which is the order the prover counts them in."""
+        return [re.sub(r'\s', '', test) for test in re.findall(r'\bif\b([^{]*)\{', self.body)]
 
     def variables(self):
         """The parameters, then what `let` and arms bind, in the order of the text."""

@@ -92,3 +92,11 @@ class Template:
 
     def by_pattern(self, need):
         return next((block for block in self.answers if any(by_number(need, name) for name in block.names)), None)
+
+    def counted(self, needs):
+        """How many names go by number, and move when the code does: of needs that have others of their kind, of things, of places in a row."""
+        kinds = [unnumbered(need) for need in needs]
+        names = [name for block in self.answers for name in block.names if not re.search('[@*]', name)]
+        texts = [block.text() for block in self.answers]
+        things = [thing for text in texts for thing in re.findall(r'@[\w·-]*?\d+(?![\w:<#])|\.kept \.\d|\bw \.\d', text)]
+        return sum('/' in name or kinds.count(unnumbered(name)) > 1 for name in names) + len(things)

@@ -10,9 +10,22 @@ def unnumbered(name):
     return re.sub(r'\d+$', '', name)
 
 
+def is_piece(piece, condition):
+    """Whether a piece of a condition, as levels or kind<8, stands in it between words."""
+    return re.search(r'(?<!\w)%s(?!\w)' % re.escape(piece), condition) is not None
+
+
 def place_in_row(parameters, name):
     """The steps to one of a row of things."""
     return ' .1' * parameters.index(name) + ' .0'
+
+
+def called(name, names):
+    """Whether a place of these names may be called so: a branch by a piece of its condition."""
+    side, _, piece = name.partition(':')
+    if side not in ('if', 'else') or not piece:
+        return name in names
+    return any(is_piece(piece, known[len(side) + 1:]) for known in names if known.startswith(side + ':'))
 
 
 class Ways:
@@ -23,17 +36,17 @@ class Ways:
         self.conditions = self.tests()
 
     def tests(self):
-        """The words of each `if` by its number; none if there are not as many as in the source."""
+        """The condition of each `if` by its number; none if there are not as many as in the source."""
         numbers = {int(m[1]) for m in (re.fullmatch(r'(?:Then|Else)(\d+)', place) for place in self.places.fields) if m}
-        words = self.function.conditions() if self.function else []
-        return dict(enumerate(words, 1)) if numbers == set(range(1, len(words) + 1)) else {}
+        texts = self.function.conditions() if self.function else []
+        return dict(enumerate(texts, 1)) if numbers == set(range(1, len(texts) + 1)) else {}
 
     def arm(self, place):
-        """The cases of an arm, plain and with the enum's name, or its numbers."""
+        """The cases of an arm, plain and with the enum's name, or its numbers, or `rest`."""
         text = self.places.own.get(place, '')
         keys = re.search(r'Run\.OneOf\s+\(?((?:List\._∷_\s+\d+[\s(]+)+)', text)
-        if not keys:
-            return ['rest'] if re.search(r'pub rest :', text) else []
+        if not keys or place.endswith('-rest'):
+            return ['rest'] if place.endswith('-rest') else []
         tags = [int(tag) for tag in re.findall(r'\d+', keys[1])]
         enum = re.search(r"tagOf\s+(\S+)\.the-type", text)
         if not enum:
@@ -51,9 +64,11 @@ class Ways:
             return ['joined']
         branch = re.fullmatch(r'(Then|Else)(\d+)', place)
         if branch:
-            return [{'Then': 'if:', 'Else': 'else:'}[branch[1]] + word for word in sorted(self.conditions.get(int(branch[2]), []))]
-        if place.startswith('At-') and place[len('At-'):] in self.places.loops:
-            return [place[len('At-'):]]
+            side, test = {'Then': 'if:', 'Else': 'else:'}[branch[1]], self.conditions.get(int(branch[2]), '')
+            return [side + piece for piece in re.findall(r'[A-Za-z_]\w*', test) + [test]]
+        loop = re.fullmatch(r'(At|After)-(\S+)', place)
+        if loop and loop[2] in self.places.loops:
+            return [loop[2] if loop[1] == 'At' else 'behind:' + loop[2]]
         called = [unnumbered(field) for field in self.places.fields.get(place, [])]
         return [name for name in called if name in self.callees]
 
@@ -67,11 +82,16 @@ class Ways:
     def fits(self, need, wanted):
         """Whether the way to a need has these places, in this order."""
         marks = iter(self.landmarks(need))
-        return all(any(name in names for names in marks) for name in wanted)
+        return all(any(called(name, names) for names in marks) for name in wanted)
 
     def find(self, need, name, kind='', whole=False):
-        """The path from a need to what is named: `name`, or `name:kind`, as if:levels and arm:Step; None if there is none."""
-        for place, step in self.places.way(need):
+        """The path from a need to what is named; None if there is none. With a kind: if:levels, arm:Step, or the nearest of a name that
+        lies before a place, as emit:loop."""
+        way = self.places.way(need)
+        if kind and name not in ('if', 'arm'):
+            reached = [at for at, (place, _) in enumerate(way) if called(kind, self.names(place))]
+            way, name, kind = way[reached[0] + 1:] if reached else [], name + '#', ''
+        for place, step in way:
             fields = self.places.fields.get(place, [])
             if whole and place in (name, 'After-' + name, 'At-' + name):
                 return '(%s)' % step
@@ -89,7 +109,7 @@ class Ways:
             return fields[0] if arm and arm[1] == name[len('arm'):] and arm[2] != 'rest' else None
         if name == 'if' and kind:
             branch = re.fullmatch(r'(?:Then|Else)(\d+)', place)
-            return fields[0] if branch and kind in self.conditions.get(int(branch[1]), []) else None
+            return fields[0] if branch and is_piece(kind, self.conditions.get(int(branch[1]), '')) else None
         if name == 'joined':
             return fields[0] if place.endswith('-came') else None
         if name == 'match-key':
