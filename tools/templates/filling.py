@@ -6,7 +6,7 @@ import generated
 
 MADE = '-- Made by ./proofs from Proof.tmpl: change that.'
 SEARCH = 'use borrow.Author.Needs.{needs}'
-NAMED = re.compile(r'(?:λ (?P<bound>\w+)@(?P<case>\w+)\.|(?<![\w@:])(?P<way>\w+):(?P<part>[\w·-]+)'
+NAMED = re.compile(r'(?:λ (?P<bound>\w+)@(?P<case>[\w:<>!+*/%-]+)\.|(?<![\w@:])(?P<way>\w+):(?P<part>[\w·-]+)'
                    r'|(?P<marks>@@?)(?P<name>[\w·-]+)(?::(?P<kind>[\w·<>!+*/%-]+))?(?P<near>#?))(?:\.kept-(?P<kept>[\w·-]+))?')
 
 

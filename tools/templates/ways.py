@@ -6,6 +6,10 @@ import generated
 import source
 
 
+ARM = re.compile(r'At-match(\d*)-(keys\d+|rest)')
+BRANCH = re.compile(r'(Then|Else)(\d+)')
+
+
 def unnumbered(name):
     return re.sub(r'\d+$', '', name)
 
@@ -20,7 +24,7 @@ def place_in_row(parameters, name):
     return ' .1' * parameters.index(name) + ' .0'
 
 
-def called(name, names):
+def is_called(name, names):
     """Whether a place of these names may be called so: a branch by a piece of its condition."""
     side, _, piece = name.partition(':')
     if side not in ('if', 'else') or not piece:
@@ -29,15 +33,16 @@ def called(name, names):
 
 
 class Ways:
+    """The walk of one function, its places by their names in the source."""
+
     def __init__(self, places, crate, path, callees):
         self.places, self.function = places, source.function(crate, path)
         self.callees = {name: source.function(*where) for name, where in callees.items()}
-        self.crate = crate
         self.conditions = self.tests()
 
     def tests(self):
         """The condition of each `if` by its number; none if there are not as many as in the source."""
-        numbers = {int(m[1]) for m in (re.fullmatch(r'(?:Then|Else)(\d+)', place) for place in self.places.fields) if m}
+        numbers = {int(m[2]) for m in map(BRANCH.fullmatch, self.places.fields) if m}
         texts = self.function.conditions() if self.function else []
         return dict(enumerate(texts, 1)) if numbers == set(range(1, len(texts) + 1)) else {}
 
@@ -58,19 +63,19 @@ class Ways:
 
     def names(self, place):
         """What a place is called in a template; the first name is the plainest."""
-        if re.fullmatch(r'At-match\d*-(keys\d+|rest)', place):
+        if ARM.fullmatch(place):
             return self.arm(place)
         if place.endswith('-came'):
             return ['joined']
-        branch = re.fullmatch(r'(Then|Else)(\d+)', place)
+        branch = BRANCH.fullmatch(place)
         if branch:
             side, test = {'Then': 'if:', 'Else': 'else:'}[branch[1]], self.conditions.get(int(branch[2]), '')
             return [side + piece for piece in re.findall(r'[A-Za-z_]\w*', test) + [test]]
         loop = re.fullmatch(r'(At|After)-(\S+)', place)
         if loop and loop[2] in self.places.loops:
             return [loop[2] if loop[1] == 'At' else 'behind:' + loop[2]]
-        called = [unnumbered(field) for field in self.places.fields.get(place, [])]
-        return [name for name in called if name in self.callees]
+        fields = [unnumbered(field) for field in self.places.fields.get(place, [])]
+        return [name for name in fields if name in self.callees]
 
     def landmarks(self, need):
         """The names of the places from the start to a need; of a need about a buffer's length, its parameter too."""
@@ -82,14 +87,14 @@ class Ways:
     def fits(self, need, wanted):
         """Whether the way to a need has these places, in this order."""
         marks = iter(self.landmarks(need))
-        return all(any(called(name, names) for names in marks) for name in wanted)
+        return all(any(is_called(name, names) for names in marks) for name in wanted)
 
     def find(self, need, name, kind='', whole=False):
         """The path from a need to what is named; None if there is none. With a kind: if:levels, arm:Step, or the nearest of a name that
         lies before a place, as emit:loop."""
         way = self.places.way(need)
         if kind and name not in ('if', 'arm'):
-            reached = [at for at, (place, _) in enumerate(way) if called(kind, self.names(place))]
+            reached = [at for at, (place, _) in enumerate(way) if is_called(kind, self.names(place))]
             way, name, kind = way[reached[0] + 1:] if reached else [], name + '#', ''
         for place, step in way:
             fields = self.places.fields.get(place, [])
@@ -101,27 +106,31 @@ class Ways:
         return None
 
     def named_field(self, place, fields, name, kind):
-        before = self.places.before.get(place) or ''
-        arm = re.fullmatch(r'At-match(\d*)-(keys\d+|rest)', before)
-        if name == 'arm' and kind:
-            return fields[0] if arm and any(n.startswith(kind + '::') for n in self.arm(before)) else None
-        if re.fullmatch(r'arm\d*', name):
-            return fields[0] if arm and arm[1] == name[len('arm'):] and arm[2] != 'rest' else None
+        """The field of a place that a name stands for, if it is there."""
         if name == 'if' and kind:
-            branch = re.fullmatch(r'(?:Then|Else)(\d+)', place)
-            return fields[0] if branch and is_piece(kind, self.conditions.get(int(branch[1]), '')) else None
+            branch = BRANCH.fullmatch(place)
+            return fields[0] if branch and is_piece(kind, self.conditions.get(int(branch[2]), '')) else None
+        if re.fullmatch(r'arm\d*', name):
+            return fields[0] if self.tells(self.places.before.get(place) or '', name[len('arm'):], kind) else None
         if name == 'joined':
             return fields[0] if place.endswith('-came') else None
         if name == 'match-key':
             return fields[0] if self.key(place) else None
         if name.endswith('#'):
-            return next((f for f in fields if re.fullmatch(re.escape(name[:-1]) + r'\d*', f)), None)
+            return next((field for field in fields if re.fullmatch(re.escape(name[:-1]) + r'\d*', field)), None)
         return name if name in fields else None
+
+    def tells(self, place, number, enum):
+        """Whether this is an arm over that enum or, if none is named, of the match with that number."""
+        arm = ARM.fullmatch(place)
+        if not arm or arm[2] == 'rest':
+            return False
+        return any(name.startswith(enum + '::') for name in self.arm(place)) if enum else arm[1] == number
 
     def key(self, place):
         """What an arm says of the number that was matched."""
-        arm = re.fullmatch(r'At-match\d*-(keys\d+|rest)', place)
-        return arm[1] if arm else None
+        arm = ARM.fullmatch(place)
+        return arm[2] if arm else None
 
     def join(self, need, case, name):
         """The steps to a component of the way through the arm `case` of the nearest join: the last of that name. `arm` is what the arm
@@ -131,7 +140,7 @@ class Ways:
             return None
         kind = re.search(r'pub came :(.*)', self.places.own[place], re.S)[1]
         ways = generated.ways_together(kind)
-        way = next((way for way in ways if any(case in self.names(at) for _, at in way if at)), None)
+        way = next((way for way in ways if any(is_called(case, self.names(at)) for _, at in way if at)), None)
         if way is None:
             return None
         found = [n for n, (field, at) in enumerate(way) if at is None and field == name] or \
@@ -168,7 +177,7 @@ class Ways:
 
     def binders(self, loop):
         """The variables that a loop's invariant and measure take: as it began (₀ if it changes them), and as they are now."""
-        numbers, names = self.places.locals_of('Need-%s-holds' % loop), self.function.variables()
+        numbers, names = self.places.locals_of('Need-%s-holds' % loop), self.function.variables() if self.function else []
         first = numbers[:next((at for at, n in enumerate(numbers) if n in numbers[:at]), len(numbers))]
         now = [field for field in re.findall(r'pub (\S+) :', self.places.own.get('At-' + loop, '')) if field != 'inv']
         changed = numbers[len(first):]
