@@ -6,6 +6,7 @@ import generated
 
 MADE = '-- Made by ./proofs from Proof.tmpl: change that.'
 SEARCH = 'use borrow.Author.Needs.{needs}'
+# What a template names: `λ w@CASE.`, `w:NAME`, or @NAME, @@NAME, @NAME:KIND, @NAME#; the last two also with .kept-BUFFER.
 NAMED = re.compile(r'(?:λ (?P<bound>\w+)@(?P<case>[\w:<>!+*/%-]+)\.|(?<![\w@:])(?P<way>\w+):(?P<part>[\w·-]+)'
                    r'|(?P<marks>@@?)(?P<name>[\w·-]+)(?::(?P<kind>[\w·<>!+*/%-]+))?(?P<near>#?))(?:\.kept-(?P<kept>[\w·-]+))?')
 
@@ -32,20 +33,14 @@ def takes(need):
 
 def answers(template, part, facts):
     """What may stand in a hole: (block, text) each. There is one, unless the facts leave open which need a way leads to."""
-    if part.loop:
-        block = template.loops.get(part.name)
-        blocks = [block] if block else []
-    else:
-        blocks = facts.blocks(template, part)
-    if not blocks:
-        yield None, facts.put(part, '%s%s = %s' % (part.name, part.binders, '?' if part.loop else 'search needs'))
+    blocks = [template.loops.get(part.name)] if part.loop else facts.blocks(template, part)
     for block in blocks:
         if block is None:
-            yield None, facts.put(part, '%s%s = search needs' % (part.name, part.binders))
-            continue
-        binders = (block.binders or part.binders or facts.binders(part)) if part.loop else part.binders
-        above = block.unfolding + '\n' if block.unfolding else ''
-        yield block, facts.put(part, '%s%s%s =%s' % (above, part.name, binders, block.text()))
+            text = '%s%s = %s' % (part.name, part.binders, '?' if part.loop else 'search needs')
+        else:
+            binders = (part.loop and block.binders) or part.binders or facts.binders(part)
+            text = '%s%s%s =%s' % (block.unfolding + '\n' if block.unfolding else '', part.name, binders, block.text())
+        yield block, facts.put(part, text)
 
 
 def unused(template, used):
@@ -102,8 +97,7 @@ class Facts:
     def blocks(self, template, part):
         need, walk = 'Need-' + part.need(), self.walks[part.owner]
         block = template.in_full(part.name) or next((block for block, places in template.by_way(part.name) if walk.fits(need, places)), None)
-        block = block or template.by_pattern(part.name)
-        return [block] if block else []
+        return [block or template.by_pattern(part.name)]
 
     def binders(self, part):
         names = self.walks[part.owner].binders(part.need().split('-', 1)[1])
