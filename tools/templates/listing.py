@@ -3,6 +3,7 @@ import os
 
 import filling
 from template import unnumbered
+from ways import BRANCH
 
 
 def short_name(walk, need):
@@ -23,21 +24,25 @@ def show(walks, only):
     """Every need: its name by its way, the way, and, for one that is asked for, each named thing with the path to it."""
     for owner, walk in walks.items():
         for need in walk.places.needs:
-            name = need[len('Need-'):]
-            if only and only not in (need, name, owner + '-' + name):
+            before = owner + '-' if owner else ''
+            number, name = before + need[len('Need-'):], before + short_name(walk, need)
+            if only and only not in (number, name):
                 continue
-            print('%s   %s' % (name, short_name(walk, need) if short_name(walk, need) != name else ''))
+            print(name if name == number else '%s   (%s)' % (name, number))
             print('    way: ' + ' '.join(names[0] for names in walk.landmarks(need)))
             if only:
                 things(walk, need)
 
 
 def things(walk, need):
+    """Each thing that is known at a need, nearest first: a branch by its condition, the others by their names."""
     seen = set()
     for place, step in walk.places.way(need):
         for field in walk.places.fields.get(place, []):
+            branch = walk.names(place) if BRANCH.fullmatch(place) else []
+            name = branch[0].replace('else:', 'if:') if branch else field
             if field not in seen:
-                print('    @%-27s %s .%s' % (field, step, field))
+                print('    @%-27s %s .%s' % (name, step, field))
             seen.add(field)
         print('    @@%-26s %s' % (place, step))
 

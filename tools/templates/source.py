@@ -18,7 +18,7 @@ class Function:
 
     def conditions(self):
         """The condition of each `if`, without blanks, in the order of the text, which is the order the prover counts them in."""
-        return [re.sub(r'\s', '', test) for test in re.findall(r'\bif\b([^{]*)\{', self.body)]
+        return [re.sub(r'\s', '', test) for test in re.findall(r'\bif\b(?!\s+let\b)([^{]*)\{', self.body)]
 
     def variables(self):
         """The parameters, then what `let` and arms bind, in the order of the text."""
