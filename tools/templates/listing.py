@@ -7,17 +7,18 @@ from ways import BRANCH
 
 
 def short_name(walk, need):
-    """The name of a need by its way, with as few places as tell it from the others of its kind: cases first, and the latest that do."""
+    """The name of a need by its way, with as few places as tell it from the others of its kind: cases first, and the
+    latest that do; with a star if none does, since the others have theirs."""
     kind, alike = unnumbered(need), [other for other in walk.places.needs if unnumbered(other) == unnumbered(need)]
     if len(alike) == 1:
         return need[len('Need-'):]
-    marks = [name for names in walk.landmarks(need) for name in names if '=' not in name and '::' not in name]
-    late = sorted(reversed(range(len(marks))), key=lambda at: not marks[at][0].isupper())
-    choices = [[marks[at]] for at in late] + [[marks[a], marks[b]] for a in late for b in late if a < b]
+    marks = [(at, name) for at, names in enumerate(walk.landmarks(need)) for name in names if '=' not in name and '::' not in name]
+    late = sorted(marks, key=lambda mark: (not mark[1][0].isupper(), -mark[0]))
+    choices = [[name] for _, name in late] + [[one, two] for a, one in late for b, two in late if a < b]
     for places in choices:
         if [other for other in alike if walk.fits(other, places)] == [need]:
             return '@'.join([kind[len('Need-'):]] + places)
-    return need[len('Need-'):]
+    return kind[len('Need-'):] + '*'
 
 
 def show(walks, only):
