@@ -48,6 +48,16 @@ def things(walk, need):
         print('    @@%-26s %s' % (place, step))
 
 
+def spare_the_search(crate, functions):
+    """A Proof.antt that says nothing, where there is none: else the prover searches for every need by itself, for minutes."""
+    for function in functions:
+        path = os.path.join('crates', crate, 'proofs', function, 'Proof.antt')
+        os.makedirs(os.path.dirname(path), exist_ok=True)
+        if not os.path.exists(path):
+            with open(path, 'w', encoding='utf-8') as file:
+                file.write('-- Begun by ./proofs.\n')
+
+
 def begin(proof):
     """A Proof.tmpl with a hole for each need that has no number, or a name by its way."""
     path = os.path.join(proof.home, 'Proof.tmpl')
@@ -59,7 +69,6 @@ def begin(proof):
         lines += ['μ-%s κs a = ?\n' % owner] if owner else []
         lines += ['%s%s-%s = ?\n' % (before, kind, loop) for loop in walk.places.loops for kind in ('Inv', 'μ')]
         lines += ['%s%s%s = ?\n' % (before, short_name(walk, need), filling.takes(need)) for need in walk.places.needs]
-    os.makedirs(proof.home, exist_ok=True)
     with open(path, 'w', encoding='utf-8') as file:
         file.write('\n'.join(lines))
     print('began', path)
