@@ -53,7 +53,7 @@ pub fn fits_then_quiet(s: &[u8], base: u32, events: &[u32], errors: &[u32])
         → (QuietRun (documentRun (now (s .entry)) base (now (events .entry)) (now (errors .entry))) × NoMultiLineKey (documentRun (now (s .entry)) base (now (events .entry)) (now (errors .entry))))) ⌝ }
 {}
 
-// The same with the depth as a premise on the list: quiet without a multi-line key exactly when the list fits.
+// With the depth as a premise on the list: quiet without a multi-line key exactly when the list fits.
 pub fn quiet_exactly_when_fits(s: &[u8], base: u32, events: &[u32], errors: &[u32])
     ensures { λ _. ⌜ (Ready (now (s .entry)) base (now (events .entry)) (now (errors .entry))
         → NestedWithin maxDepth (allTokens (now (s .entry)) base)
