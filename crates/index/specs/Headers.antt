@@ -1,8 +1,10 @@
 -- The headers of a list of events, worked out from the kinds of the events alone, and the bytes that stand for them. Assumes nothing.
-use Prim.Native.Nat.{ℕ, suc, _/_, _%_}
+use Prim.Native.Nat.{ℕ, zero, suc, _*_, _/_, _%_}
 use mathlib.Core.Bool.{Bool, true, false, cond}
 use mathlib.Core.List.{List, [], _∷_, _++_}
 use lib.Dec.{eqb}
+use lib.ListN.{getD}
+use Rattle.rules.specs.Answer.{eventSize}
 
 -- 1, std_table_open, and 3, array_table_open
 abbrev pub opensHeader : ℕ → Bool
@@ -13,6 +15,10 @@ abbrev pub closing : Bool → ℕ
 closing true = 4
 closing false = 2
 
+abbrev pub oneIf : Bool → ℕ
+oneIf true = 1
+oneIf false = 0
+
 -- a header: the place of its open event, the number of key parts, whether it is an array table, and the number of events from that one up
 -- to the next header or the end
 pub record Header : Type 0 where
@@ -21,10 +27,12 @@ pub record Header : Type 0 where
   pub array : Bool
   pub events : ℕ
 
--- the simple_key events (kind 5) up to the event that closes
+-- the simple_key events (kind 5) up to the event that closes. In a quiet run it comes; in other words the next header or the end may come
+-- before it
 abbrev pub partsUpTo : ℕ → List ℕ → ℕ
 partsUpTo close [] = 0
-partsUpTo close (kind ∷ kinds) = cond (eqb kind close) 0 (cond (eqb kind 5) (suc (partsUpTo close kinds)) (partsUpTo close kinds))
+partsUpTo close (kind ∷ kinds) =
+    cond (opensHeader kind) 0 (cond (eqb kind close) 0 (cond (eqb kind 5) (suc (partsUpTo close kinds)) (partsUpTo close kinds)))
 
 -- the events up to the next header or the end
 abbrev pub upToHeader : List ℕ → ℕ
@@ -38,6 +46,15 @@ headersFrom n (kind ∷ kinds) =
     cond (opensHeader kind)
     (record { place = n; parts = partsUpTo (closing (eqb kind 3)) kinds; array = eqb kind 3; events = suc (upToHeader kinds) } ∷ headersFrom (suc n) kinds)
     (headersFrom (suc n) kinds)
+
+-- the kinds of n events in a buffer, from event i on: word 0 of each
+abbrev pub kindsFrom : ℕ → ℕ → List ℕ → List ℕ
+kindsFrom zero i buffer = []
+kindsFrom (suc n) i buffer = getD buffer (i * eventSize) 0 ∷ kindsFrom n (suc i) buffer
+
+-- the headers of the first n events in a buffer
+unfoldable pub headersIn : ℕ → List ℕ → List Header
+headersIn n buffer = headersFrom 0 (kindsFrom n 0 buffer)
 
 -- numbers of two and of four bytes, least byte first
 abbrev pub twoBytes : ℕ → List ℕ
