@@ -1,17 +1,22 @@
-/* libdeckmarten.a for C: the entries, and a name for every number that goes in or comes out. docs/USING.md shows how to use
- * it, docs/LAYOUT.md says what every byte of the records and every word of the buffers means. bindings/check-numbers holds the names
- * and numbers here to that page. */
+/* libdeckmarten.a for C: its functions, and a name for every number that goes in or comes out. docs/USING.md shows how to use
+ * it, docs/LAYOUT.md says what every byte of the records, every word of the buffers and every part of an answer means.
+ * bindings/check-numbers holds the names, the numbers and the parts of the answers here to that page. */
 #ifndef DECKMARTEN_H
 #define DECKMARTEN_H
 
+#include <stdbool.h>
 #include <stddef.h>
 #include <stdint.h>
+
+#ifdef __cplusplus
+extern "C" {
+#endif
 
 /* What goes beyond a limit is refused; the limit itself is allowed. */
 enum deckmarten_limit {
     DECKMARTEN_LIMIT_RECORDS = 65536,  /* token records in a list */
     DECKMARTEN_LIMIT_DEPTH = 64,       /* arrays and inline tables open at once */
-    DECKMARTEN_LIMIT_BYTES = 16777216, /* of `base`, and of the end of each token */
+    DECKMARTEN_LIMIT_BYTES = 16777216, /* of a text, of `base`, and of the end of each token */
 };
 
 enum deckmarten_size {
@@ -20,6 +25,9 @@ enum deckmarten_size {
     DECKMARTEN_SIZE_ERROR = 6,  /* words of an error: message, expected, context start and end, unexpected start and end */
 };
 
+/* Records that are enough for a text of so many bytes, and the bytes of so many records. */
+#define DECKMARTEN_TEXT_RECORDS(bytes) ((size_t)(bytes) + 1)
+#define DECKMARTEN_RECORD_BYTES(records) ((size_t)DECKMARTEN_SIZE_RECORD * (records))
 /* Words that are enough for the events and the errors of so many records. */
 #define DECKMARTEN_EVENT_WORDS(records) ((size_t)DECKMARTEN_SIZE_EVENT * 3 * (records))
 #define DECKMARTEN_ERROR_WORDS(records) ((size_t)DECKMARTEN_SIZE_ERROR * (2 * (size_t)(records) + 1))
@@ -125,7 +133,7 @@ enum deckmarten_expected {
     DECKMARTEN_EXPECTED_LITERAL_STRING_BASIC_STRING_OR_UNQUOTED_STRING = 14, /* a key part that is no multi-line string */
 };
 
-/* Refusals. The place is the number of a record, from 0, where nothing else is said; at NONE it is 0. */
+/* Refusals, of all functions. The place is the number of a record, from 0, where nothing else is said; at NONE it is 0. */
 enum deckmarten_refusal {
     DECKMARTEN_REFUSAL_NONE = 0,           /* the list was read to its end */
     DECKMARTEN_REFUSAL_PARTIAL_RECORD = 1, /* the byte length is no multiple of 6; place: whole records */
@@ -136,9 +144,31 @@ enum deckmarten_refusal {
     DECKMARTEN_REFUSAL_DEPTH = 6,          /* a 65th array or inline table would be open */
     DECKMARTEN_REFUSAL_EVENTS = 7,         /* the events do not fit; place: 0 */
     DECKMARTEN_REFUSAL_ERRORS = 8,         /* the errors do not fit; place: 0 */
+    DECKMARTEN_REFUSAL_TEXT_TOO_LONG = 9,  /* a text of more than 16,777,216 bytes; place: 16,777,216 */
+    DECKMARTEN_REFUSAL_NOT_UTF8 = 10,      /* a text that is not UTF-8; place: the first byte that cannot be, from 0 */
+    DECKMARTEN_REFUSAL_TOKENS = 11,        /* the tokens do not fit; place: 0 */
 };
 
-/* The refusal's number, its place, and how many events and errors there are, stored or not. */
+/* What every function below owes and is owed. Any text, records, base and room may be given: what is wrong with them is a refusal in
+ * the answer. Lengths of texts and records are in bytes, those of the events and the errors in words. Memory that is written overlaps
+ * nothing else, and no pointer may be null, even where its length is 0. It is proved that the functions end and read and write nothing
+ * else. They keep nothing, and may be called by several threads at once. */
+
+/* Whether a text or a list fits the token grammar. Only `fits` is yes. */
+struct deckmarten_verdict {
+    bool fits;        /* it was judged, and fits */
+    uint32_t refusal; /* if not 0, it was not judged, and `fits` is false */
+    size_t place;
+};
+
+/* Is this text a document? Yes exactly if it is UTF-8, within the limits, and its tokens fit the token grammar. A yes does not judge
+ * what is inside a token: strings that are never closed, escapes, numbers, dates and keys defined twice pass (docs/USING.md).
+ * DECKMARTEN_TEXT_RECORDS are enough records, and as many events are enough: DECKMARTEN_SIZE_EVENT words each. With room for fewer
+ * events than the text has records the answer is refusal EVENTS. Both buffers are for the function's own use. */
+struct deckmarten_verdict deckmarten_text_fits(const uint8_t *text, size_t bytes, uint8_t *records, size_t record_bytes,
+                                               uint32_t *events, size_t event_words);
+
+/* What comes of records: the refusal's number, its place, and how many events and errors there are, stored or not. */
 struct deckmarten_answer {
     uint32_t refusal;
     size_t place;
@@ -146,9 +176,41 @@ struct deckmarten_answer {
     size_t errors;
 };
 
-/* A document, a dotted key, one part of a key, and a value. Any records, base and room may be given: what is wrong with them is a
- * refusal in the answer. `bytes` counts bytes, `event_words` and `error_words` count words. The records and the two buffers must not
- * overlap, and no pointer may be null, even where its length is 0. */
+/* What comes of a text: the refusal and its place; where its first token starts, 3 behind a byte order mark and else 0; how many
+ * records were written, or at TOKENS would be needed; and how many events and errors there are, stored or not. Spans count from the text's
+ * first byte, whatever the base. */
+struct deckmarten_text_answer {
+    uint32_t refusal;
+    size_t place;
+    uint32_t base;
+    size_t records;
+    size_t events;
+    size_t errors;
+};
+
+/* Reads a text as a document: its records, its events and its errors. Refusals 9 to 11 write nothing. */
+struct deckmarten_text_answer deckmarten_parse_text(const uint8_t *text, size_t bytes, uint8_t *records, size_t record_bytes,
+                                                    uint32_t *events, size_t event_words, uint32_t *errors, size_t error_words);
+
+/* The same run as deckmarten_is_quiet takes it. */
+static inline struct deckmarten_answer deckmarten_run_of_text(struct deckmarten_text_answer answer) {
+    struct deckmarten_answer run = {answer.refusal, answer.place, answer.events, answer.errors};
+    return run;
+}
+
+/* The records of a text: the refusal (0, or 9 to 11) and its place, where the first token starts, and how many records there are. At
+ * TOKENS that is how many the text needs. */
+struct deckmarten_lexed {
+    uint32_t refusal;
+    size_t place;
+    uint32_t base;
+    size_t records;
+};
+
+/* Writes the token records of a text, and nothing if it is refused. */
+struct deckmarten_lexed deckmarten_lex(const uint8_t *text, size_t bytes, uint8_t *records, size_t record_bytes);
+
+/* A document, a dotted key, one part of a key, and a value. The first token starts at `base`. */
 struct deckmarten_answer deckmarten_parse_document(const uint8_t *records, size_t bytes, uint32_t base, uint32_t *events,
                                                    size_t event_words, uint32_t *errors, size_t error_words);
 struct deckmarten_answer deckmarten_parse_key(const uint8_t *records, size_t bytes, uint32_t base, uint32_t *events,
@@ -165,8 +227,25 @@ struct deckmarten_token {
 };
 
 /* A document whose tokens are structures. The answer and both buffers are those of deckmarten_parse_document for records of the same
- * lengths and kinds; the same is owed. The records are made on the stack, which takes 384 KiB of it. */
+ * lengths and kinds. Each call clears 384 KiB of stack, in which it makes the records: four tokens take 18 microseconds, their records
+ * at deckmarten_parse_document 59 nanoseconds, and a thread with a stack of 256 KiB is aborted. */
 struct deckmarten_answer deckmarten_parse_tokens(const struct deckmarten_token *tokens, size_t count, uint32_t base, uint32_t *events,
                                                  size_t event_words, uint32_t *errors, size_t error_words);
+
+/* Was the run with this answer, which left its events in this buffer, quiet: not refused, no error, and no event of empty span? A run
+ * whose buffers were too small is refused, so it is not quiet. */
+bool deckmarten_is_quiet(struct deckmarten_answer answer, const uint32_t *events, size_t event_words);
+
+/* Has the list one Eof, as its last token, and no two Whitespace tokens in a row? A text's records are so. Of such a list quiet means
+ * that it fits. */
+bool deckmarten_is_regular(const uint8_t *records, size_t bytes, uint32_t base);
+
+/* Are these records a document that is regular and fits the token grammar? The event buffer is for the function's own use. Room for as
+ * many events as there are records is enough; with less the answer is refusal EVENTS. */
+struct deckmarten_verdict deckmarten_fits(const uint8_t *records, size_t bytes, uint32_t base, uint32_t *events, size_t event_words);
+
+#ifdef __cplusplus
+}
+#endif
 
 #endif

@@ -110,6 +110,9 @@ static inline const char *deckmarten_refusal_text(uint32_t number) {
         [DECKMARTEN_REFUSAL_DEPTH] = "a 65th array or inline table would be open",
         [DECKMARTEN_REFUSAL_EVENTS] = "the events do not fit",
         [DECKMARTEN_REFUSAL_ERRORS] = "the errors do not fit",
+        [DECKMARTEN_REFUSAL_TEXT_TOO_LONG] = "a text of more than 16,777,216 bytes",
+        [DECKMARTEN_REFUSAL_NOT_UTF8] = "a text that is not UTF-8",
+        [DECKMARTEN_REFUSAL_TOKENS] = "the tokens do not fit",
     };
     return DECKMARTEN_TEXT(texts, number);
 }

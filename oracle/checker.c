@@ -1,21 +1,11 @@
-/* The checker of ./differ: reads frames from its input (src/frame.rs says what they are), calls the library on each list, and compares
- * the answer and every word of both buffers with what the oracle gave: document.rs compiled unchanged over stand-ins for the files
- * that are not here. Some lists go to the document entry a second time, as token structs. Stops at the first difference and prints
- * it. Ends with 0 if nothing differs, 1 if something does, 2 if the frames are not whole. */
-#include <inttypes.h>
-#include <stdio.h>
-#include <stdlib.h>
-#include <string.h>
-#include <unistd.h>
+/* The checker of ./differ: reads frames from its input (src/frame.rs says what they are), calls the library on each list and text, and
+ * compares the answer and every word of the buffers with what the oracle gave: document.rs and lexer/mod.rs compiled unchanged over
+ * stand-ins for the files that are not here. This file has the lists; checker_texts.h has the texts, and whether a list fits. Some
+ * lists go to the document entry a second time, as token structs. Stops at the first difference and prints it. Ends with 0 if nothing
+ * differs, 1 if something does, 2 if the frames are not whole. */
+#include "checker.h"
+#include "checker_texts.h"
 
-#include "../include/deckmarten.h"
-
-/* What the buffers hold beforehand. No word that is written can be it, since none is above 16,777,216. */
-#define UNTOUCHED 0xA5C3F00Du
-/* Words on each side of a buffer that must stay as they are. */
-#define BORDER 8
-/* Bytes that are read at a time. */
-#define CHUNK (1 << 20)
 /* One list in so many is compared as structs too, and each long one: the call clears 393,216 bytes first, which takes an emulator
  * about a millisecond. It is odd, so that lists with ample room and with little come in turn. */
 #define STRUCTS_EACH 499
@@ -32,75 +22,8 @@ typedef struct deckmarten_answer parse(const uint8_t *, size_t, uint32_t, uint32
 static parse *const entries[4] = {deckmarten_parse_document, deckmarten_parse_key, deckmarten_parse_simple_key, deckmarten_parse_value};
 static const char *const names[4] = {"document", "key", "simple_key", "value"};
 
-/* A piece of memory that grows as it must. */
-struct room {
-    unsigned char *at;
-    size_t size;
-};
-
-static struct room input, event_room, error_room, token_room;
-static size_t start, end; /* of what was read into `input` and not yet taken */
-static uint64_t cases, documents, as_structs, refused[9];
-static uint32_t seen_events, seen_messages; /* a bit for each kind of event and each message that occurred */
-
-static _Noreturn void broken(const char *what) {
-    fprintf(stderr, "checker: %s\n", what);
-    exit(2);
-}
-
-static void grow(struct room *room, size_t size) {
-    if (room->size >= size) return;
-    room->size = 2 * size;
-    room->at = realloc(room->at, room->size);
-    if (!room->at) broken("no memory");
-}
-
-/* The next so many bytes of the input. They stay where they are until the next call. */
-static const void *take(size_t size) {
-    if (end - start < size) {
-        grow(&input, size > CHUNK ? size : CHUNK);
-        memmove(input.at, input.at + start, end - start);
-        end -= start;
-        start = 0;
-    }
-    while (end - start < size) {
-        ssize_t got = read(0, input.at + end, input.size - end);
-        if (got <= 0) broken("the frames end too early");
-        end += (size_t)got;
-    }
-    start += size;
-    return input.at + start - size;
-}
-
-static uint32_t word(void) { return *(const uint32_t *)take(4); }
-
-/* A buffer of so many words between its borders, all untouched. */
-static uint32_t *fresh(struct room *room, size_t words) {
-    grow(room, 4 * (words + 2 * BORDER));
-    uint32_t *at = (uint32_t *)room->at;
-    for (size_t i = 0; i < words + 2 * BORDER; i++) at[i] = UNTOUCHED;
-    return at + BORDER;
-}
-
-/* Whether the buffer holds the expected words, and all others are as they were, those of the borders too. */
-static int holds(const uint32_t *buffer, size_t words, const uint32_t *expected, size_t written) {
-    if (memcmp(buffer, expected, 4 * written)) return 0;
-    for (size_t i = written; i < words + BORDER; i++)
-        if (buffer[i] != UNTOUCHED) return 0;
-    for (size_t i = 1; i <= BORDER; i++)
-        if (*(buffer - i) != UNTOUCHED) return 0;
-    return 1;
-}
-
-static void print_words(const uint32_t *words, size_t count) {
-    printf(" |");
-    for (size_t i = 0; i < count; i++) {
-        if (words[i] == UNTOUCHED)
-            printf(" -");
-        else
-            printf(" %" PRIu32, words[i]);
-    }
-}
+static struct room token_room;
+static uint64_t documents, as_structs, texts, verdicts;
 
 /* The token structs of so many records. What lies between them is not 0. */
 static const struct deckmarten_token *structs_of(const uint8_t *bytes, size_t count) {
@@ -118,8 +41,8 @@ static const struct deckmarten_token *structs_of(const uint8_t *bytes, size_t co
 /* Prints the case, what the library gave and what was expected. */
 static _Noreturn void differs(const struct frame *f, const char *what, const uint8_t *bytes, const uint32_t *wanted, struct deckmarten_answer a,
                               const uint32_t *events, const uint32_t *errors) {
-    printf("differs %" PRIu64 " %s %u %u %u x:", cases, names[f->entry], f->base, f->event_room, f->error_room);
-    for (size_t i = 0; i < f->bytes; i++) printf("%02x", bytes[i]);
+    printf("differs %" PRIu64 " %s %u %u %u ", cases, names[f->entry], f->base, f->event_room, f->error_room);
+    print_hex(bytes, f->bytes);
     printf("\n%s %u %zu %zu %zu", what, a.refusal, a.place, a.events, a.errors);
     print_words(events, f->event_room);
     print_words(errors, f->error_room);
@@ -159,8 +82,7 @@ static void check_case(void) {
     uint32_t *events = fresh(&event_room, f.event_room), *errors = fresh(&error_room, f.error_room);
     compare(&f, "library:    ", bytes, wanted, entries[f.entry](bytes, f.bytes, f.base, events, f.event_room, errors, f.error_room), events, errors);
     if (f.entry == 0 && f.bytes % 6 == 0 && (documents++ % STRUCTS_EACH == 0 || f.bytes > LONG)) check_structs(&f, bytes, wanted);
-    for (size_t i = 0; i < f.event_words; i += 4) seen_events |= 1u << wanted[i] % 32;
-    for (size_t i = 0; i < f.error_words; i += 6) seen_messages |= 1u << wanted[f.event_words + i] % 32;
+    see(wanted, f.event_words, wanted + f.event_words, f.error_words);
     cases++;
     refused[f.refusal]++;
 }
@@ -173,9 +95,10 @@ static void show_note(void) {
 
 static int finish(void) {
     uint64_t low = word(), sent = low | (uint64_t)word() << 32;
-    if (sent != cases) broken("another number of lists was sent");
-    printf("same %" PRIu64 " %" PRIu64 " %u %u", cases, as_structs, seen_events, seen_messages);
-    for (int i = 0; i < 9; i++) printf(" %" PRIu64, refused[i]);
+    if (sent != cases) broken("another number of cases was sent");
+    printf("same %" PRIu64 " %" PRIu64 " %" PRIu64 " %" PRIu64 " %u %u %u", cases, as_structs, texts, verdicts, seen_kinds, seen_events,
+           seen_messages);
+    for (int i = 0; i < REFUSALS; i++) printf(" %" PRIu64, refused[i]);
     printf("\n");
     return 0;
 }
@@ -186,6 +109,8 @@ int main(void) {
         case 0: return finish();
         case 1: check_case(); break;
         case 2: show_note(); break;
+        case 3: texts++, cases += check_text(); break;
+        case 4: check_fits(), verdicts++, cases++; break;
         default: broken("a frame of no known sort");
         }
     }

@@ -1,18 +1,31 @@
-/* Breaks what a caller owes, to show that memcheck sees it: lends one record, or room for one event, and says that there are two. Run
- * with the word `records` or `events`. */
+/* Breaks what a caller owes, to show that memcheck sees it: lends a half of a buffer and says that it is whole. Run with the word `records`,
+ * `events`, `text` or `lexed`, for records that are read, events, a text, and records that are written. */
 #include <stdlib.h>
 #include <string.h>
 
 #include "deckmarten.h"
 
+static const char *lie;
+
+/* A buffer of this size, filled with a byte; only its first half if the lie is about it. */
+static void *lent(const char *name, size_t size, int byte) {
+    size_t whole = strcmp(lie, name) ? size : size / 2;
+    return memset(malloc(whole), byte, whole);
+}
+
 int main(int count, char **words) {
     if (count != 2) return 2;
-    size_t records_lent = strcmp(words[1], "records") ? 2 : 1, events_lent = strcmp(words[1], "events") ? 2 : 1;
-    uint8_t *records = malloc(DECKMARTEN_SIZE_RECORD * records_lent);
-    uint32_t *events = malloc(sizeof *events * DECKMARTEN_SIZE_EVENT * events_lent), errors;
-    for (size_t i = 0; i < records_lent; i++) memcpy(records + DECKMARTEN_SIZE_RECORD * i, "\1\0\0\0\12", DECKMARTEN_SIZE_RECORD);
-    deckmarten_parse_document(records, DECKMARTEN_SIZE_RECORD * 2, 0, events, DECKMARTEN_SIZE_EVENT * 2, &errors, 0);
+    lie = words[1];
+    uint8_t *records = lent("records", DECKMARTEN_RECORD_BYTES(2), 0), *text = lent("text", 2, '\n');
+    uint8_t *lexed = lent("lexed", DECKMARTEN_RECORD_BYTES(4), 0);
+    uint32_t *events = lent("events", sizeof *events * DECKMARTEN_SIZE_EVENT * 2, 0), errors;
+    for (size_t i = 0; i < (strcmp(lie, "records") ? 2 : 1); i++)
+        memcpy(records + DECKMARTEN_SIZE_RECORD * i, "\1\0\0\0\12", DECKMARTEN_SIZE_RECORD);
+    deckmarten_parse_document(records, DECKMARTEN_RECORD_BYTES(2), 0, events, DECKMARTEN_SIZE_EVENT * 2, &errors, 0);
+    deckmarten_lex(text, 2, lexed, DECKMARTEN_RECORD_BYTES(4));
     free(records);
+    free(text);
+    free(lexed);
     free(events);
     return 0;
 }

@@ -1,5 +1,9 @@
 /* Tests deckmarten_parse_tokens: for the lists of limits.c, and for wrong ones, it must answer and leave what deckmarten_parse_document
- * does for the records of the same lengths and kinds. */
+ * does for the records of the same lengths and kinds.
+ *
+ *   tokens          compare
+ *   tokens KIB      read no tokens in a thread with a stack of so many KiB, which a signal ends if that is too little */
+#include <pthread.h>
 #include <stdio.h>
 #include <stdlib.h>
 
@@ -44,7 +48,23 @@ static void compare_wrong(const char *name, const char *bytes) {
     compare(name, 3, 0);
 }
 
-int main(void) {
+static void *read_none(void *data) {
+    deckmarten_parse_tokens(tokens, 0, 0, events[0], 0, errors[0], 0);
+    return data;
+}
+
+/* The stack has a page below it that must not be touched. */
+static int read_in_thread(size_t stack) {
+    pthread_attr_t attributes;
+    pthread_t thread;
+    if (pthread_attr_init(&attributes) || pthread_attr_setstacksize(&attributes, stack)) return 2;
+    if (pthread_create(&thread, &attributes, read_none, NULL) || pthread_join(thread, NULL)) return 2;
+    printf("%zu bytes of stack are enough\n", stack);
+    return 0;
+}
+
+int main(int count, char **words) {
+    if (count == 2) return read_in_thread((size_t)1024 * strtoul(words[1], NULL, 10));
     for (int i = 0; i < LISTS; i++) {
         write_records(&lists[i], records);
         compare(lists[i].name, count_records(&lists[i]), 7);

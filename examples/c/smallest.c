@@ -1,16 +1,17 @@
-/* The smallest program: is `a=1` a document? */
+/* The smallest program: is this text a document? */
 #include <stdio.h>
 
-#include "deckmarten_quiet.h"
+#include "deckmarten.h"
+
+static const uint8_t text[] = "[jobs.main]\nledger = \"main.db\"\n";
+#define BYTES (sizeof text - 1)
+#define RECORDS DECKMARTEN_TEXT_RECORDS(BYTES)
 
 int main(void) {
-    /* `a`, `=`, `1` and the end of the text: four bytes of length and two of kind each, least first */
-    const uint8_t records[] = {
-        1, 0, 0, 0, DECKMARTEN_KIND_ATOM,   0, 1, 0, 0, 0, DECKMARTEN_KIND_EQUALS, 0,
-        1, 0, 0, 0, DECKMARTEN_KIND_ATOM,   0, 0, 0, 0, 0, DECKMARTEN_KIND_EOF,    0,
-    };
-    uint32_t events[DECKMARTEN_SIZE_EVENT * 4]; /* room for one event a record */
-    int fits = deckmarten_fits(records, sizeof records, 0, events, sizeof events / sizeof *events);
-    puts(fits ? "fits" : "does not fit");
-    return fits ? 0 : 1;
+    static uint8_t records[DECKMARTEN_RECORD_BYTES(RECORDS)];
+    static uint32_t events[DECKMARTEN_SIZE_EVENT * RECORDS]; /* room for one event a record */
+    struct deckmarten_verdict verdict =
+        deckmarten_text_fits(text, BYTES, records, sizeof records, events, sizeof events / sizeof *events);
+    puts(verdict.fits ? "fits" : "does not fit");
+    return verdict.fits ? 0 : 1;
 }

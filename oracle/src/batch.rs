@@ -43,17 +43,22 @@ pub fn parse(line: &str) -> Result<Case, String> {
     let base = number(next("base")?)?;
     let event_words = number(next("room for events")?)?;
     let error_words = number(next("room for errors")?)?;
-    let mut bytes = Vec::new();
-    for word in words {
-        item(word, &mut bytes)?;
-    }
     Ok(Case {
         entry,
         base,
         event_words,
         error_words,
-        bytes,
+        bytes: bytes(words)?,
     })
+}
+
+/// The bytes of words `kind:length` or `x:HEX`.
+pub fn bytes<'w>(words: impl IntoIterator<Item = &'w str>) -> Result<Vec<u8>, String> {
+    let mut bytes = Vec::new();
+    for word in words {
+        item(word, &mut bytes)?;
+    }
+    Ok(bytes)
 }
 
 /// Appends the bytes of `kind:length` or `x:HEX`.

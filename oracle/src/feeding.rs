@@ -5,24 +5,58 @@ use std::io::Write;
 
 use crate::batch::Case;
 use crate::frame;
+use crate::grammar;
 use crate::judged_compared;
+use crate::lexer::Token;
+use crate::lexer::TokenKind;
+use crate::records;
+use crate::texts;
+use crate::texts::Rooms;
+use crate::texts::Text;
+use crate::Entry;
 use crate::Judged;
 
 /// Bytes that are gathered before they are written.
 const GATHERED: usize = 800_000;
+
+/// Something else than the oracle gives that is asked for on purpose.
+#[derive(Copy, Clone, PartialEq, Eq, Debug)]
+pub enum Wrong {
+    /// At each report 13 what was expected is another.
+    Reports,
+    /// Each multi-line basic string of a text is a multi-line literal one.
+    Records,
+    /// What is not UTF-8 begins one byte later.
+    Places,
+    /// The last record of a text is not written.
+    Untouched,
+    /// A list with `{` in it fits if it does not, and the other way round.
+    Fits,
+    /// The same of a text.
+    TextFits,
+}
+
+/// All of them, with their names.
+pub const WRONGS: [(&str, Wrong); 6] = [
+    ("reports", Wrong::Reports),
+    ("records", Wrong::Records),
+    ("places", Wrong::Places),
+    ("untouched", Wrong::Untouched),
+    ("fits", Wrong::Fits),
+    ("text_fits", Wrong::TextFits),
+];
 
 /// What is to be written, and how many cases there were.
 pub struct Feed<W> {
     to: W,
     out: Vec<u8>,
     cases: u64,
-    wrong: bool,
+    wrong: Option<Wrong>,
 }
 
 impl<W: Write> Feed<W> {
-    /// Frames for `to`. If `wrong`, something else is asked for at each report 13
-    /// than the oracle gives.
-    pub fn new(to: W, wrong: bool) -> Self {
+    /// Frames for `to`, with something wrong asked for if that is wanted.
+    pub fn new(to: W, wrong: Option<Wrong>) -> Self {
         Self {
             to,
             out: Vec::new(),
@@ -66,14 +100,77 @@ impl<W: Write> Feed<W> {
         let mut events = vec![0; case.event_words];
         let mut errors = vec![0; case.error_words];
         let answer = judged.answer(&mut events, &mut errors);
-        if self.wrong {
+        if self.wrong == Some(Wrong::Reports) {
             let errors = errors.chunks_exact_mut(6);
             errors
                 .filter(|error| error[0] == 13)
                 .for_each(|error| error[1] += 1);
         }
         frame::push_case(&mut self.out, case, &answer, &events, &errors);
-        self.cases += 1;
+        self.added(1)
+    }
+
+    /// Adds a text in each of these rooms, which are chosen by what it needs.
+    pub fn put_text<R>(
+        &mut self,
+        bytes: &[u8],
+        rooms: impl FnOnce(Rooms) -> R,
+    ) -> Result<(), String>
+    where
+        R: IntoIterator<Item = Rooms>,
+    {
+        let mut text = texts::judge(bytes)?;
+        let rooms: Vec<Rooms> = rooms(text.needs()).into_iter().collect();
+        if let Some(wrong) = self.wrong {
+            spoil(&mut text, wrong);
+        }
+        let unwritten = 6 * usize::from(self.wrong == Some(Wrong::Untouched));
+        frame::push_text(&mut self.out, bytes, &text, &rooms, unwritten);
+        self.added(rooms.len() as u64)
+    }
+
+    /// Adds whether the list fits as a document, in the rooms that the number of its
+    /// records gives.
+    pub fn put_fits<R>(
+        &mut self,
+        mut case: Case,
+        rooms: impl FnOnce(usize) -> R,
+    ) -> Result<(), String>
+    where
+        R: IntoIterator<Item = usize>,
+    {
+        let judged = judged_compared(Entry::Document, case.base, &case.bytes)?;
+        let kinds: Option<Vec<TokenKind>> = records::tokens(case.base, &case.bytes)
+            .ok()
+            .map(|tokens| tokens.iter().map(Token::kind).collect());
+        let mut fits = match &kinds {
+            Some(kinds) => texts::fits(kinds, &judged)?,
+            None => false,
+        };
+        if self.wrong == Some(Wrong::Fits) {
+            let kinds = kinds.as_deref().unwrap_or_default();
+            fits ^= kinds.contains(&TokenKind::LeftCurlyBracket);
+        }
+        let regular = kinds.map_or(2, |kinds| usize::from(grammar::is_regular(&kinds)));
+        let records = case.bytes.len() / 6;
+        for event_words in rooms(records) {
+            case.event_words = event_words;
+            let quiet = match &judged {
+                Judged::Walked(lists, None) => {
+                    lists.is_quiet() && lists.events.len() <= event_words / 4
+                }
+                _ => false,
+            };
+            let verdict = texts::verdict(&judged, records, fits, event_words);
+            frame::push_fits(&mut self.out, &case, &verdict, regular, quiet);
+            self.added(1)?;
+        }
+        Ok(())
+    }
+
+    /// Counts cases that were added, and writes if enough was gathered.
+    fn added(&mut self, cases: u64) -> Result<(), String> {
+        self.cases += cases;
         if self.out.len() >= GATHERED {
             self.write()?;
         }
@@ -100,6 +197,29 @@ impl<W: Write> Feed<W> {
         }
         self.out.clear();
         Ok(())
+    }
+}
+
+/// Makes what the text gives wrong.
+fn spoil(text: &mut Text, wrong: Wrong) {
+    match (text, wrong) {
+        (Text::Refused(refusal), Wrong::Places) if refusal.number == texts::NOT_UTF8 => {
+            refusal.place += 1;
+        }
+        (Text::Tokens { judged, .. }, Wrong::Reports) => {
+            if let Judged::Walked(lists, _) = judged {
+                let reports = lists.errors.iter_mut().filter(|error| error[0] == 13);
+                reports.for_each(|error| error[1] += 1);
+            }
+        }
+        (Text::Tokens { records, .. }, Wrong::Records) => {
+            let strings = records.chunks_exact_mut(6).filter(|record| record[4] == 14);
+            strings.for_each(|record| record[4] = 13);
+        }
+        (Text::Tokens { records, fits, .. }, Wrong::TextFits) => {
+            *fits ^= records.chunks_exact(6).any(|record| record[4] == 6);
+        }
+        _ => {}
     }
 }
 

@@ -5,11 +5,27 @@
 //! 1, a case: entry (0 to 3), base, number of bytes, words of room for events and for
 //! errors, the four words of the answer, how many event words and error words were
 //! written; then the bytes, filled up with zeros to whole words, and the written words;
-//! 2, a note to show: its number of bytes, and the bytes, filled up likewise.
+//! 2, a note to show: its number of bytes, and the bytes, filled up likewise;
+//! 3, a text: number of bytes of the text and of its records, words of its events and
+//! of its errors, number of rooms; then the text and the records, filled up likewise,
+//! and the words of events and errors, all that the text gives. Then for each room 20
+//! words: bytes for records, words for events, words for errors; what lexing answers
+//! (refusal, place, base, records) and how many bytes it writes; what the joined entry
+//! answers (refusal, place, base, records, events, errors) and how many bytes and words
+//! it writes to the three buffers; whether the text fits (fits, refusal, place);
+//! 4, whether a list fits: base, number of bytes, words of room for events; the
+//! verdict (fits, refusal, place); whether the list is regular (2 where that is not
+//! asked), and whether a run with this room and none for errors is quiet; then the
+//! bytes, filled up likewise.
 
 use crate::batch::Case;
+use crate::texts::Lexed;
+use crate::texts::Rooms;
+use crate::texts::Text;
+use crate::texts::Verdict;
 use crate::walk::ENTRIES;
 use crate::Answer;
+use crate::Judged;
 
 /// Appends the case with its answer and what was written to its buffers.
 pub fn push_case(out: &mut Vec<u8>, case: &Case, answer: &Answer, events: &[u32], errors: &[u32]) {
@@ -32,6 +48,90 @@ pub fn push_case(out: &mut Vec<u8>, case: &Case, answer: &Answer, events: &[u32]
     for word in events[..event_words].iter().chain(&errors[..error_words]) {
         push(out, *word as usize);
     }
+}
+
+/// Appends a text with what it gives in each of these rooms. Of its records so many bytes
+/// at the end are said not to be written, which is right only if they are 0.
+pub fn push_text(out: &mut Vec<u8>, bytes: &[u8], text: &Text, rooms: &[Rooms], unwritten: usize) {
+    let needs = text.needs();
+    push(out, 3);
+    push(out, bytes.len());
+    push(out, needs.record_bytes);
+    push(out, needs.event_words);
+    push(out, needs.error_words);
+    push(out, rooms.len());
+    push_bytes(out, bytes);
+    if let Text::Tokens {
+        records, judged, ..
+    } = text
+    {
+        push_bytes(out, records);
+        if let Judged::Walked(lists, _) = judged {
+            let words = lists.events.iter().flatten();
+            let words = words.chain(lists.errors.iter().flatten());
+            words.for_each(|word| push(out, *word as usize));
+        }
+    }
+    for room in rooms {
+        push_rooms(out, room);
+        push_in_room(
+            out,
+            text,
+            needs.record_bytes.saturating_sub(unwritten),
+            room,
+        );
+    }
+}
+
+fn push_in_room(out: &mut Vec<u8>, text: &Text, written: usize, room: &Rooms) {
+    let lexed = text.lexed(room.record_bytes);
+    let record_bytes = if lexed.refusal == 0 { written } else { 0 };
+    push_lexed(out, &lexed);
+    push(out, record_bytes);
+    let parsed = text.parsed(*room);
+    push_lexed(out, &parsed.lexed);
+    push(out, parsed.events);
+    push(out, parsed.errors);
+    push_rooms(
+        out,
+        &Rooms {
+            record_bytes,
+            event_words: 4 * parsed.events.min(room.event_words / 4),
+            error_words: 6 * parsed.errors.min(room.error_words / 6),
+        },
+    );
+    push_verdict(out, &text.verdict(room.record_bytes, room.event_words));
+}
+
+fn push_rooms(out: &mut Vec<u8>, rooms: &Rooms) {
+    push(out, rooms.record_bytes);
+    push(out, rooms.event_words);
+    push(out, rooms.error_words);
+}
+
+fn push_lexed(out: &mut Vec<u8>, lexed: &Lexed) {
+    push(out, lexed.refusal as usize);
+    push(out, lexed.place);
+    push(out, lexed.base as usize);
+    push(out, lexed.records);
+}
+
+fn push_verdict(out: &mut Vec<u8>, verdict: &Verdict) {
+    push(out, usize::from(verdict.fits));
+    push(out, verdict.refusal as usize);
+    push(out, verdict.place);
+}
+
+/// Appends whether a list fits, is regular, and is quiet.
+pub fn push_fits(out: &mut Vec<u8>, case: &Case, verdict: &Verdict, regular: usize, quiet: bool) {
+    push(out, 4);
+    push(out, case.base as usize);
+    push(out, case.bytes.len());
+    push(out, case.event_words);
+    push_verdict(out, verdict);
+    push(out, regular);
+    push(out, usize::from(quiet));
+    push_bytes(out, &case.bytes);
 }
 
 /// Appends a note.

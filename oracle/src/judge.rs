@@ -82,6 +82,14 @@ impl Judged {
         }
     }
 
+    /// The answer with so many words of room.
+    pub fn answer_in(&self, event_words: usize, error_words: usize) -> Answer {
+        match self {
+            Judged::Early(refusal) => early(*refusal),
+            Judged::Walked(lists, stop) => answer(lists, *stop, event_words, error_words),
+        }
+    }
+
     /// The answer with buffers of this size, to which what fits is written.
     pub fn answer(&self, events: &mut [u32], errors: &mut [u32]) -> Answer {
         match self {
@@ -93,13 +101,30 @@ impl Judged {
 
 /// As [`judge_compared`], for any number of rooms.
 pub fn judged_compared(entry: Entry, base: u32, bytes: &[u8]) -> Result<Judged, String> {
-    let tokens = match records::tokens(base, bytes) {
-        Ok(tokens) => tokens,
-        Err(refusal) => return Ok(Judged::Early(refusal)),
-    };
-    let (counted, stop) = walk::counted(entry, &tokens, LEVELS);
-    let unchanged = walk::unchanged(entry, &tokens);
-    compare(&tokens, &counted, stop, &unchanged)?;
+    match records::tokens(base, bytes) {
+        Ok(tokens) => judged_walk(entry, &tokens),
+        Err(refusal) => Ok(Judged::Early(refusal)),
+    }
+}
+
+/// As [`judged_compared`], for records of these very tokens: the records must give them.
+pub fn judged_tokens(
+    entry: Entry,
+    base: u32,
+    bytes: &[u8],
+    tokens: &[Token],
+) -> Result<Judged, String> {
+    match records::tokens(base, bytes) {
+        Ok(found) if found != tokens => Err("records that give other tokens".to_string()),
+        Ok(_) => judged_walk(entry, tokens),
+        Err(refusal) => Ok(Judged::Early(refusal)),
+    }
+}
+
+fn judged_walk(entry: Entry, tokens: &[Token]) -> Result<Judged, String> {
+    let (counted, stop) = walk::counted(entry, tokens, LEVELS);
+    let unchanged = walk::unchanged(entry, tokens);
+    compare(tokens, &counted, stop, &unchanged)?;
     let lists = if stop.is_some() { counted } else { unchanged };
     Ok(Judged::Walked(lists, stop))
 }
@@ -150,7 +175,7 @@ fn early(refusal: records::Refusal) -> Answer {
     }
 }
 
-/// Writes what fits and gives the answer, refusals 6 to 8 among it.
+/// Writes what fits and gives the answer.
 fn write(lists: &Lists, stop: Option<usize>, events: &mut [u32], errors: &mut [u32]) -> Answer {
     for (place, event) in events.chunks_exact_mut(4).zip(&lists.events) {
         place.copy_from_slice(event);
@@ -158,10 +183,15 @@ fn write(lists: &Lists, stop: Option<usize>, events: &mut [u32], errors: &mut [u
     for (place, error) in errors.chunks_exact_mut(6).zip(&lists.errors) {
         place.copy_from_slice(error);
     }
+    answer(lists, stop, events.len(), errors.len())
+}
+
+/// The answer with so many words of room, refusals 6 to 8 among it.
+fn answer(lists: &Lists, stop: Option<usize>, event_words: usize, error_words: usize) -> Answer {
     let (refusal, place) = match stop {
         Some(record) => (6, record),
-        None if lists.events.len() > events.len() / 4 => (7, 0),
-        None if lists.errors.len() > errors.len() / 6 => (8, 0),
+        None if lists.events.len() > event_words / 4 => (7, 0),
+        None if lists.errors.len() > error_words / 6 => (8, 0),
         None => (0, 0),
     };
     Answer {

@@ -1,19 +1,25 @@
-//! The oracle: src/parser/document.rs of crate toml_parser 1.0.4, compiled
-//! unchanged, as the judge of what the port must answer.
+//! The oracle: src/parser/document.rs and src/lexer/mod.rs of crate toml_parser
+//! 1.0.4, compiled unchanged, as the judge of what the port must answer.
 //!
-//! Everything the original takes from other files is a stand-in here, written
-//! from reading; each says so. [`judge`] is the main function.
+//! Everything the two take from other files is a stand-in here, written from
+//! reading; each says so. [`judge`] is the main function for token lists, and
+//! [`texts::judge`] for texts.
 
 #![forbid(unsafe_code)]
 
 // The original names winnow; its stand-in is this crate's `stream`.
 extern crate self as winnow;
+// So does the original; its `Lexer::into_vec` needs it.
+extern crate alloc;
 
 pub mod batch;
 pub mod decoder;
 pub mod feeding;
 pub mod frame;
 pub mod generate;
+pub mod grammar;
+// the original has a constant that only other files of its crate use
+#[allow(dead_code)]
 pub mod lexer;
 pub mod listing;
 pub mod notation;
@@ -21,12 +27,15 @@ pub mod numbers;
 pub mod parser;
 pub mod prng;
 pub mod records;
+pub mod snippets;
 pub mod stream;
+pub mod texts;
 pub mod tomlish;
 pub mod walk;
 
 mod error;
 mod judge;
+mod source;
 mod span;
 
 pub use error::ErrorSink;
@@ -39,5 +48,6 @@ pub use judge::judged_compared;
 pub use judge::Answer;
 pub use judge::Judged;
 pub use judge::LEVELS;
+pub use source::Source;
 pub use span::Span;
 pub use walk::Entry;

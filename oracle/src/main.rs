@@ -1,4 +1,4 @@
-//! The oracle as a program: lists one token list, answers a batch of them, or
+//! The oracle as a program: lists one token list or text, answers a batch of them, or
 //! makes records and random cases. See README.md.
 
 use std::io::BufRead as _;
@@ -14,12 +14,18 @@ use oracle::listing::listing;
 use oracle::notation;
 use oracle::prng::Prng;
 use oracle::records;
+use oracle::texts;
+use oracle::texts::Text;
 use oracle::walk;
+use oracle::Answer;
 use oracle::Entry;
 
 const USAGE: &str = "usage:
   oracle ENTRY BASE [--events WORDS] [--errors WORDS] < records
   oracle --batch < cases
+  oracle --text < text
+  oracle --lex < text
+  oracle --texts < lines
   oracle --random|--damaged|--valid|--malformed COUNT SEED ENTRY|any MAXLEN
   oracle --records NOTATION [--no-eof]
   oracle --pairs NOTATION [--no-eof]
@@ -40,6 +46,15 @@ fn main() -> ExitCode {
 fn run(words: &[&str]) -> Result<(), String> {
     match words {
         ["--batch"] => answer_batch(),
+        ["--text"] => list_text(&input()?),
+        ["--lex"] => match texts::judge(&input()?)? {
+            Text::Tokens { records, .. } => put(&records),
+            Text::Refused(refusal) => Err(format!(
+                "refused {} place {}",
+                refusal.number, refusal.place
+            )),
+        },
+        ["--texts"] => answer_texts(),
         ["--random", rest @ ..] => make_cases(Style::Random, rest),
         ["--damaged", rest @ ..] => make_cases(Style::Damaged, rest),
         ["--valid", rest @ ..] => make_cases(Style::Valid, rest),
@@ -56,6 +71,47 @@ fn run(words: &[&str]) -> Result<(), String> {
     }
 }
 
+/// All that is on standard input.
+fn input() -> Result<Vec<u8>, String> {
+    let mut bytes = Vec::new();
+    let read = std::io::stdin().read_to_end(&mut bytes);
+    read.map(|_| bytes).map_err(|e| e.to_string())
+}
+
+/// Lists the events and errors of a text, read as a document.
+fn list_text(bytes: &[u8]) -> Result<(), String> {
+    let text = texts::judge(bytes)?;
+    let needs = text.needs();
+    let mut events = vec![0; needs.event_words];
+    let mut errors = vec![0; needs.error_words];
+    let answer = match &text {
+        Text::Tokens { judged, .. } => judged.answer(&mut events, &mut errors),
+        Text::Refused(refusal) => Answer {
+            refusal: refusal.number,
+            place: refusal.place,
+            ..Answer::default()
+        },
+    };
+    put(listing(&answer, &events, &errors).as_bytes())
+}
+
+/// Of texts in hexadecimal, a line each: `quiet`, `not quiet`, or `refused N place P`.
+fn answer_texts() -> Result<(), String> {
+    let mut out = std::io::BufWriter::new(std::io::stdout().lock());
+    for line in std::io::stdin().lock().lines() {
+        let line = line.map_err(|e| e.to_string())?;
+        let text = texts::judge(&batch::bytes([format!("x:{line}").as_str()])?)?;
+        let verdict = text.verdict(usize::MAX, usize::MAX);
+        let said = match (verdict.refusal, verdict.fits) {
+            (0, true) => "quiet".to_string(),
+            (0, false) => "not quiet".to_string(),
+            (refusal, _) => format!("refused {refusal} place {}", verdict.place),
+        };
+        writeln!(out, "{said}").map_err(|e| e.to_string())?;
+    }
+    out.flush().map_err(|e| e.to_string())
+}
+
 /// Lists one token list. Without a given room the buffers get the size that a
 /// first run without any room counts.
 fn list(entry: Entry, base: u32, options: &[&str]) -> Result<(), String> {
@@ -67,10 +123,7 @@ fn list(entry: Entry, base: u32, options: &[&str]) -> Result<(), String> {
             _ => return Err(USAGE.to_string()),
         }
     }
-    let mut bytes = Vec::new();
-    std::io::stdin()
-        .read_to_end(&mut bytes)
-        .map_err(|e| e.to_string())?;
+    let bytes = input()?;
     let counts = oracle::judge(entry, base, &bytes, &mut [], &mut []);
     let mut events = vec![0; rooms[0].unwrap_or(counts.events * 4)];
     let mut errors = vec![0; rooms[1].unwrap_or(counts.errors * 6)];

@@ -57,6 +57,13 @@ pub struct Lists {
     pub errors: Vec<[u32; 6]>,
 }
 
+impl Lists {
+    /// Whether there is no error and no event of empty span.
+    pub fn is_quiet(&self) -> bool {
+        self.errors.is_empty() && self.events.iter().all(|event| event[2] != event[3])
+    }
+}
+
 /// The unchanged original over these tokens.
 pub fn unchanged(entry: Entry, tokens: &[Token]) -> Lists {
     let parse = match entry {

@@ -49,7 +49,7 @@ const SLIPS: [(&str, &str); 10] = [
 ];
 
 /// A file of backup jobs as people write them, each with this many of the slips.
-fn jobs(size: usize, slips: usize) -> String {
+pub fn jobs(size: usize, slips: usize) -> String {
     let mut prng = Prng::new(1);
     let mut text =
         String::from("# Backup jobs\n\n[agent]\nname = \"store-7\"\nlog.level = 'info'\n");
@@ -100,7 +100,7 @@ exclude = ["*.tmp", "cache/**", 'lost+found']
 }
 
 /// One array of this many integers and strings, ten on a line.
-fn scalars(size: usize) -> String {
+pub fn scalars(size: usize) -> String {
     let mut text = String::from("x = [\n");
     for number in 0..size {
         let end = if number % 10 == 9 { ",\n" } else { "," };

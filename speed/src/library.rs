@@ -1,7 +1,8 @@
-//! The library, by its C function for documents.
+//! The library, by its C functions for documents and for texts.
 
 use crate::Buffers;
 use crate::Counts;
+use crate::TextBuffers;
 
 #[repr(C)]
 struct Answer {
@@ -11,7 +12,41 @@ struct Answer {
     errors: usize,
 }
 
+#[repr(C)]
+struct Lexed {
+    refusal: u32,
+    place: usize,
+    base: u32,
+    records: usize,
+}
+
+#[repr(C)]
+struct TextAnswer {
+    refusal: u32,
+    place: usize,
+    base: u32,
+    records: usize,
+    events: usize,
+    errors: usize,
+}
+
 extern "C" {
+    fn deckmarten_lex(
+        text: *const u8,
+        bytes: usize,
+        records: *mut u8,
+        record_bytes: usize,
+    ) -> Lexed;
+    fn deckmarten_parse_text(
+        text: *const u8,
+        bytes: usize,
+        records: *mut u8,
+        record_bytes: usize,
+        events: *mut u32,
+        event_words: usize,
+        errors: *mut u32,
+        error_words: usize,
+    ) -> TextAnswer;
     fn deckmarten_parse_document(
         records: *const u8,
         bytes: usize,
@@ -57,4 +92,58 @@ fn document(bytes: &[u8], buffers: &mut Buffers) -> Answer {
             errors.len(),
         )
     }
+}
+
+/// From bytes to events. What callgrind counts in this function is the library's side.
+#[inline(never)]
+pub fn text(bytes: &[u8], buffers: &mut TextBuffers) -> Counts {
+    let TextBuffers {
+        records,
+        words: Buffers { events, errors },
+    } = buffers;
+    // SAFETY: each pointer has its length, and the four do not overlap: all that include/deckmarten.h asks for.
+    let answer = unsafe {
+        deckmarten_parse_text(
+            bytes.as_ptr(),
+            bytes.len(),
+            records.as_mut_ptr(),
+            records.len(),
+            events.as_mut_ptr(),
+            events.len(),
+            errors.as_mut_ptr(),
+            errors.len(),
+        )
+    };
+    assert_eq!(
+        (answer.refusal, answer.base),
+        (0, 0),
+        "refused at {}",
+        answer.place
+    );
+    assert!(answer.records <= records.len() / 6);
+    Counts {
+        events: answer.events,
+        errors: answer.errors,
+    }
+}
+
+/// From bytes to records, and how many they are.
+#[inline(never)]
+pub fn lex(bytes: &[u8], records: &mut [u8]) -> usize {
+    // SAFETY: as above.
+    let answer = unsafe {
+        deckmarten_lex(
+            bytes.as_ptr(),
+            bytes.len(),
+            records.as_mut_ptr(),
+            records.len(),
+        )
+    };
+    assert_eq!(
+        (answer.refusal, answer.base),
+        (0, 0),
+        "refused at {}",
+        answer.place
+    );
+    answer.records
 }

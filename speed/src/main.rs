@@ -1,6 +1,9 @@
 //! The driver of ./bench: makes a token list and has both parsers walk it, the library as the archive that rt writes and document.rs
-//! compiled unchanged over stand-ins for the files that are not here. Both get the same tokens, and buffers of the same size.
+//! compiled unchanged over stand-ins for the files that are not here. Both get the same tokens, and buffers of the same size. With
+//! texts both go from bytes to events, the Rust by `from_utf8`, lexer/mod.rs and document.rs. A text is made by one run and read from its
+//! file by another, so that little but what is measured is counted.
 
+use std::io::Write as _;
 use std::process::ExitCode;
 use std::time::Duration;
 use std::time::Instant;
@@ -8,10 +11,12 @@ use std::time::Instant;
 mod cases;
 mod library;
 mod original;
+mod texts;
 
 use oracle::lexer::Token;
 
-const USAGE: &str = "usage: speed walk|check|time CASE SIZE";
+const USAGE: &str =
+    "usage: speed walk|check|time CASE SIZE | make CASE SIZE > FILE | text|alone|time-text FILE";
 
 /// How long each side is repeated where times are taken.
 const WHILE: Duration = Duration::from_millis(500);
@@ -28,10 +33,17 @@ fn main() -> ExitCode {
 }
 
 fn run(words: &[String]) -> Result<(), String> {
-    let [mode, case, size] = words else {
-        return Err(USAGE.to_string());
+    let (mode, case, size) = match words {
+        [mode, file] => return on_text(mode, file),
+        [mode, case, size] => (mode, case, size),
+        _ => return Err(USAGE.to_string()),
     };
     let size = size.parse().map_err(|_| USAGE)?;
+    if mode == "make" {
+        let text = texts::text(case, size).ok_or("no such case")?;
+        let done = std::io::stdout().write_all(&text);
+        return done.map_err(|error| error.to_string());
+    }
     let bytes = cases::records(case, size).ok_or("no such case")?;
     let tokens = oracle::records::tokens(0, &bytes)
         .map_err(|refusal| format!("the list is refused: {refusal:?}"))?;
@@ -58,6 +70,61 @@ impl Buffers {
             events: vec![0; 4 * (3 * tokens + 2)],
             errors: vec![0; 6 * (3 * tokens + 2)],
         }
+    }
+}
+
+/// The words that both sides write to, and the bytes that only the library does.
+pub struct TextBuffers {
+    pub records: Vec<u8>,
+    pub words: Buffers,
+}
+
+/// Both sides on the text in a file.
+fn on_text(mode: &str, file: &str) -> Result<(), String> {
+    let bytes = std::fs::read(file).map_err(|error| format!("{file}: {error}"))?;
+    let most = bytes.len() + 1;
+    let mut buffers = TextBuffers {
+        records: vec![0; 6 * most],
+        words: Buffers::for_tokens(most),
+    };
+    match mode {
+        "text" => {
+            let tokens = library::lex(&bytes, &mut buffers.records);
+            let counts = text(&bytes, &mut buffers)?;
+            println!(
+                "{} {tokens} {} {}",
+                bytes.len(),
+                counts.events,
+                counts.errors
+            );
+            Ok(())
+        }
+        "alone" => text(&bytes, &mut buffers).map(|_| ()),
+        "time-text" => {
+            let ours = shortest(|| library::text(&bytes, &mut buffers));
+            let theirs = shortest(|| original::text(&bytes, &mut buffers.words));
+            let each = |time: Duration| time.as_nanos() as f64 / bytes.len() as f64;
+            println!("{:.2} {:.2}", each(ours), each(theirs));
+            Ok(())
+        }
+        _ => Err(USAGE.to_string()),
+    }
+}
+
+/// Reads the text once on each side, and sees that both gave the same.
+fn text(bytes: &[u8], buffers: &mut TextBuffers) -> Result<Counts, String> {
+    let counts = library::text(bytes, buffers);
+    let words = &mut buffers.words;
+    let events = words.events[..4 * counts.events].to_vec();
+    let places = error_places(words, counts);
+    let theirs = original::text(bytes, words);
+    let same = theirs == counts
+        && words.events.starts_with(&events)
+        && error_places(words, counts) == places;
+    if same {
+        Ok(counts)
+    } else {
+        Err("the two sides give different events or errors".to_string())
     }
 }
 

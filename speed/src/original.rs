@@ -1,4 +1,4 @@
-//! document.rs, with a receiver and a sink that write into the same words as the library.
+//! document.rs, with a receiver and a sink that write into the same words as the library, and lexer/mod.rs before it.
 
 use oracle::decoder::Encoding;
 use oracle::lexer::Token;
@@ -6,6 +6,7 @@ use oracle::parser;
 use oracle::parser::EventReceiver;
 use oracle::ErrorSink;
 use oracle::ParseError;
+use oracle::Source;
 use oracle::Span;
 
 use crate::Buffers;
@@ -27,6 +28,21 @@ pub fn walk(tokens: &[Token], buffers: &mut Buffers) -> Counts {
         events: events.count,
         errors: errors.count,
     }
+}
+
+/// From bytes to events: the text is seen to be UTF-8, lexed into a list, and walked. What callgrind counts under this name is the
+/// Rust's side.
+#[inline(never)]
+pub fn text(bytes: &[u8], buffers: &mut Buffers) -> Counts {
+    let tokens = lex(bytes);
+    walk(&tokens, buffers)
+}
+
+/// From bytes to tokens.
+#[inline(never)]
+pub fn lex(bytes: &[u8]) -> Vec<Token> {
+    let text = std::str::from_utf8(bytes).expect("the texts are UTF-8");
+    Source::new(text).lex().into_vec()
 }
 
 /// Four words an event; what does not fit is counted.

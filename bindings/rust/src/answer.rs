@@ -1,60 +1,48 @@
 //! What a run answers.
 
-use crate::foreign::RawAnswer;
-use crate::limits::{ERROR_SIZE, EVENT_SIZE};
+use std::ops::Deref;
+
+use crate::foreign::{self, RawAnswer, RawTextAnswer};
+use crate::limits::{ERROR_SIZE, EVENT_SIZE, RECORD_SIZE};
 use crate::{Event, ParseError, Refusal, Stored};
 
 /// What a run answers, with the buffers that hold its events and errors.
 #[derive(Clone, Copy, Debug)]
 #[must_use]
 pub struct Answer<'b> {
-    refusal: Option<Refusal>,
-    place: usize,
-    event_count: usize,
-    error_count: usize,
+    raw: RawAnswer,
     events: &'b [u32],
     errors: &'b [u32],
 }
 
-/// The words of a buffer that hold entries: as many as there are, or as fit.
-fn stored(buffer: &[u32], count: usize, size: usize) -> &[u32] {
+/// The part of a buffer that holds entries: as many as there are, or as fit.
+fn stored<T>(buffer: &[T], count: usize, size: usize) -> &[T] {
     &buffer[..size * count.min(buffer.len() / size)]
 }
 
 impl<'b> Answer<'b> {
     pub(crate) fn new(raw: RawAnswer, events: &'b [u32], errors: &'b [u32]) -> Answer<'b> {
-        let refusal = match raw.refusal {
-            0 => None,
-            number => Some(Refusal::from_number(number).expect("a refusal is one of 1 to 8")),
-        };
-        Answer {
-            refusal,
-            place: raw.place,
-            event_count: raw.events,
-            error_count: raw.errors,
-            events: stored(events, raw.events, EVENT_SIZE),
-            errors: stored(errors, raw.errors, ERROR_SIZE),
-        }
+        Answer { raw, events: stored(events, raw.events, EVENT_SIZE), errors: stored(errors, raw.errors, ERROR_SIZE) }
     }
 
-    /// Why the list was refused; none if it was not.
+    /// Why the text or the list was refused; none if it was not.
     pub fn refusal(&self) -> Option<Refusal> {
-        self.refusal
+        Refusal::answered(self.raw.refusal)
     }
 
     /// Where it was refused: see [`Refusal`]. 0 if it was not.
     pub fn place(&self) -> usize {
-        self.place
+        self.raw.place
     }
 
     /// How many events there are, whether they fit or not.
     pub fn event_count(&self) -> usize {
-        self.event_count
+        self.raw.events
     }
 
     /// How many errors there are, whether they fit or not.
     pub fn error_count(&self) -> usize {
-        self.error_count
+        self.raw.errors
     }
 
     /// The events, or the first of them if they do not all fit.
@@ -67,13 +55,57 @@ impl<'b> Answer<'b> {
         Stored::new(self.errors, ERROR_SIZE, ParseError::read)
     }
 
-    /// Whether the run was quiet: not refused, no error, and no event of empty span.
+    /// Whether the run was quiet: not refused, no error, and no event of empty span. The library answers it, by a function that is proved.
     ///
     /// A run whose buffers were too small is refused, so it is not quiet. To count errors is not enough: `[=` and a newline give none.
-    /// Of a document with one Eof, which is last, and without adjacent Whitespace, quiet means that it fits the token grammar; [`fits`](crate::fits) asks
-    /// all of that at once.
+    /// Of a text, and of a document with one Eof, which is last, and without adjacent Whitespace, quiet means that it fits the token
+    /// grammar; [`text_fits`](crate::text_fits) and [`fits`](crate::fits) ask all of that at once, and say what it does not promise.
     #[must_use]
     pub fn is_quiet(&self) -> bool {
-        self.refusal.is_none() && self.error_count == 0 && self.events().all(|event| !event.span.is_empty())
+        foreign::is_quiet(self.raw, self.events)
+    }
+}
+
+/// What a run over a text answers: an [`Answer`], and the records that the text was cut into.
+///
+/// Spans count from the text's first byte, whatever the base, so `&text[event.span.range()]` is what an event stands for.
+#[derive(Clone, Copy, Debug)]
+#[must_use]
+pub struct TextAnswer<'b> {
+    answer: Answer<'b>,
+    base: u32,
+    record_count: usize,
+    records: &'b [u8],
+}
+
+impl<'b> TextAnswer<'b> {
+    pub(crate) fn new(raw: RawTextAnswer, records: &'b [u8], events: &'b [u32], errors: &'b [u32]) -> TextAnswer<'b> {
+        let run = RawAnswer { refusal: raw.refusal, place: raw.place, events: raw.events, errors: raw.errors };
+        let answer = Answer::new(run, events, errors);
+        let written = if answer.refusal() == Some(Refusal::Tokens) { 0 } else { raw.records };
+        TextAnswer { answer, base: raw.base, record_count: raw.records, records: stored(records, written, RECORD_SIZE) }
+    }
+
+    /// Where the first token starts: 3 behind a byte order mark, else 0. 0 if no record was written.
+    pub fn base(&self) -> u32 {
+        self.base
+    }
+
+    /// How many records the text has, also where there is no room for them. 0 if it is too long or not UTF-8.
+    pub fn record_count(&self) -> usize {
+        self.record_count
+    }
+
+    /// The bytes of the records that were written: of all of them, or none.
+    pub fn records(&self) -> &'b [u8] {
+        self.records
+    }
+}
+
+impl<'b> Deref for TextAnswer<'b> {
+    type Target = Answer<'b>;
+
+    fn deref(&self) -> &Answer<'b> {
+        &self.answer
     }
 }

@@ -1,4 +1,4 @@
-//! The four entries, over lent buffers.
+//! The four entries over records, and the one over tokens, over lent buffers.
 
 use crate::foreign;
 use crate::{Answer, Token};
@@ -60,8 +60,10 @@ pub fn parse_value<'b>(records: &[u8], base: u32, events: &'b mut [u32], errors:
     Entry::Value.parse(records, base, events, errors)
 }
 
-/// Reads a document from tokens: what it answers and leaves is what [`parse_document`] does for their records. The library makes the
-/// records on the stack, which takes 384 KiB of it.
+/// Reads a document from tokens: what it answers and leaves is what [`parse_document`] does for their records.
+///
+/// Each call clears 384 KiB of stack, in which the library makes the records: four tokens take 18 microseconds, their records at
+/// [`parse_document`] 59 nanoseconds. In a thread with a stack of 256 KiB it aborts the program.
 ///
 /// ```
 /// use deckmarten::{parse_tokens, Token, TokenKind::*};

@@ -1,15 +1,52 @@
 //! The functions of libdeckmarten.a. This is the one place with unsafe code.
+//!
+//! Each call lends slices. Its safety is the same everywhere: the functions declared here require only that each pointer and length
+//! is a slice of what they declare, lent for the call, and that the slices that are written overlap nothing. Rust's references are that, with
+//! pointers that are never null. It is proved that the functions end and read and write nothing else. They keep no pointer and have no
+//! state, so any thread may call them at any time.
 #![allow(unsafe_code)]
 
 use crate::{Entry, Token};
 
-/// The answer as include/deckmarten.h declares it.
+/// `struct deckmarten_answer` of include/deckmarten.h.
+#[derive(Clone, Copy, Debug)]
 #[repr(C)]
 pub(crate) struct RawAnswer {
     pub(crate) refusal: u32,
     pub(crate) place: usize,
     pub(crate) events: usize,
     pub(crate) errors: usize,
+}
+
+/// `struct deckmarten_text_answer`.
+#[derive(Clone, Copy, Debug)]
+#[repr(C)]
+pub(crate) struct RawTextAnswer {
+    pub(crate) refusal: u32,
+    pub(crate) place: usize,
+    pub(crate) base: u32,
+    pub(crate) records: usize,
+    pub(crate) events: usize,
+    pub(crate) errors: usize,
+}
+
+/// `struct deckmarten_lexed`.
+#[derive(Clone, Copy, Debug)]
+#[repr(C)]
+pub(crate) struct RawLexed {
+    pub(crate) refusal: u32,
+    pub(crate) place: usize,
+    pub(crate) base: u32,
+    pub(crate) records: usize,
+}
+
+/// `struct deckmarten_verdict`.
+#[derive(Clone, Copy, Debug)]
+#[repr(C)]
+pub(crate) struct RawVerdict {
+    pub(crate) fits: bool,
+    pub(crate) refusal: u32,
+    pub(crate) place: usize,
 }
 
 /// Declares entries as include/deckmarten.h does, each with what its list is made of: a slice is a pointer and a length.
@@ -28,6 +65,21 @@ entries! {
     deckmarten_parse_simple_key u8,
     deckmarten_parse_value u8,
     deckmarten_parse_tokens Token,
+}
+
+#[rustfmt::skip]
+extern "C" {
+    fn deckmarten_lex(text: *const u8, bytes: usize, records: *mut u8, record_bytes: usize) -> RawLexed;
+    fn deckmarten_parse_text(
+        text: *const u8, bytes: usize, records: *mut u8, record_bytes: usize, events: *mut u32, event_words: usize, errors: *mut u32,
+        error_words: usize,
+    ) -> RawTextAnswer;
+    fn deckmarten_text_fits(
+        text: *const u8, bytes: usize, records: *mut u8, record_bytes: usize, events: *mut u32, event_words: usize,
+    ) -> RawVerdict;
+    fn deckmarten_fits(records: *const u8, bytes: usize, base: u32, events: *mut u32, event_words: usize) -> RawVerdict;
+    fn deckmarten_is_quiet(answer: RawAnswer, events: *const u32, event_words: usize) -> bool;
+    fn deckmarten_is_regular(records: *const u8, bytes: usize, base: u32) -> bool;
 }
 
 /// A function of the library over a list.
@@ -49,11 +101,47 @@ pub(crate) fn call_with_tokens(tokens: &[Token], base: u32, events: &mut [u32], 
     lend(deckmarten_parse_tokens, tokens, base, events, errors)
 }
 
-/// Lends the slices to a function of the library.
+/// Lends the slices to one of the functions that `entries!` declares.
 fn lend<T>(function: Function<T>, list: &[T], base: u32, events: &mut [u32], errors: &mut [u32]) -> RawAnswer {
-    // SAFETY: The functions above, and no others come here, require only that each pointer and length is a slice of what they declare,
-    // lent for the call, and that the two slices that are written overlap nothing. Rust's references are that, with pointers that are
-    // never null. It is proved that the functions end and read and write nothing else. They keep no pointer and have no state, so any
-    // thread may call them at any time.
+    // SAFETY: see above; no other function comes here
     unsafe { function(list.as_ptr(), list.len(), base, events.as_mut_ptr(), events.len(), errors.as_mut_ptr(), errors.len()) }
+}
+
+pub(crate) fn lex(text: &[u8], records: &mut [u8]) -> RawLexed {
+    // SAFETY: see above
+    unsafe { deckmarten_lex(text.as_ptr(), text.len(), records.as_mut_ptr(), records.len()) }
+}
+
+#[rustfmt::skip]
+pub(crate) fn parse_text(text: &[u8], records: &mut [u8], events: &mut [u32], errors: &mut [u32]) -> RawTextAnswer {
+    // SAFETY: see above
+    unsafe {
+        deckmarten_parse_text(
+            text.as_ptr(), text.len(), records.as_mut_ptr(), records.len(), events.as_mut_ptr(), events.len(), errors.as_mut_ptr(),
+            errors.len(),
+        )
+    }
+}
+
+#[rustfmt::skip]
+pub(crate) fn text_fits(text: &[u8], records: &mut [u8], events: &mut [u32]) -> RawVerdict {
+    // SAFETY: see above
+    unsafe {
+        deckmarten_text_fits(text.as_ptr(), text.len(), records.as_mut_ptr(), records.len(), events.as_mut_ptr(), events.len())
+    }
+}
+
+pub(crate) fn fits(records: &[u8], base: u32, events: &mut [u32]) -> RawVerdict {
+    // SAFETY: see above
+    unsafe { deckmarten_fits(records.as_ptr(), records.len(), base, events.as_mut_ptr(), events.len()) }
+}
+
+pub(crate) fn is_quiet(answer: RawAnswer, events: &[u32]) -> bool {
+    // SAFETY: see above
+    unsafe { deckmarten_is_quiet(answer, events.as_ptr(), events.len()) }
+}
+
+pub(crate) fn is_regular(records: &[u8]) -> bool {
+    // SAFETY: see above. Where the first token starts does not matter here.
+    unsafe { deckmarten_is_regular(records.as_ptr(), records.len(), 0) }
 }

@@ -1,19 +1,15 @@
-//! The core of a TOML parser, proved: token records in, events and errors out. This crate is a safe face of the static archive
+//! The core of a TOML parser, proved: a text in, events and errors out. This crate is a safe face of the static archive
 //! libdeckmarten.a; docs/USING.md says how to link it, docs/LAYOUT.md what every number means.
 //!
-//! A program that wants yes or no asks [`fits`]. One that shows mistakes reads with a [`Room`]: all mistakes at once, each with its
-//! place, and comments and whitespace among the events.
+//! A program that wants yes or no asks [`text_fits`], which also says what a yes does not promise. One that shows mistakes reads with a
+//! [`Room`]: all mistakes at once, each with its place, and comments and whitespace among the events.
 //!
 //! ```
-//! use deckmarten::{Entry, EventKind, Records, Room, Token, TokenKind::*};
+//! use deckmarten::{EventKind, Room};
 //!
 //! let text = "a=[1 \"b\"] # two\n";
-//! let tokens = [(Atom, 1), (Equals, 1), (LeftSquareBracket, 1), (Atom, 1), (Whitespace, 1), (BasicString, 3),
-//!     (RightSquareBracket, 1), (Whitespace, 1), (Comment, 5), (Newline, 1), (Eof, 0)];
-//! let records: Records = tokens.into_iter().map(|(kind, length)| Token::new(kind, length)).collect();
-//!
 //! let mut room = Room::new();
-//! let answer = room.parse(Entry::Document, records.as_bytes(), 0);
+//! let answer = room.parse_text(text.as_bytes());
 //! assert!(!answer.is_quiet());
 //! let error = answer.errors().next().unwrap();
 //! assert_eq!(error.to_string(), "missing comma between array elements at 5..5, expected `,`");
@@ -21,6 +17,8 @@
 //! let comment = answer.events().find(|event| event.kind == EventKind::Comment).unwrap();
 //! assert_eq!(&text[comment.span.range()], "# two");
 //! ```
+//!
+//! Who has tokens already gives them as [`Records`], which [`fits`], [`Room::parse`] and the entries take.
 #![deny(unsafe_code, missing_docs)]
 
 mod answer;
@@ -37,17 +35,19 @@ mod refusal;
 mod room;
 mod span;
 mod stored;
+mod text;
 mod token;
 
-pub use answer::Answer;
+pub use answer::{Answer, TextAnswer};
 pub use entry::{parse_document, parse_key, parse_simple_key, parse_tokens, parse_value, Entry};
 pub use error::ParseError;
 pub use event::{Encoding, Event, EventKind};
 pub use expected::Expected;
-pub use fits::{fits, is_regular};
+pub use fits::{fits, is_regular, text_fits, Verdict};
 pub use message::Message;
-pub use refusal::Refusal;
+pub use refusal::{Refusal, Refused};
 pub use room::Room;
 pub use span::Span;
 pub use stored::Stored;
+pub use text::{lex, parse_text, Lexed};
 pub use token::{Records, Token, TokenKind};

@@ -4,7 +4,7 @@
 pub const MAX_RECORDS: usize = 65_536;
 /// The most arrays and inline tables that may be open at once.
 pub const MAX_DEPTH: usize = 64;
-/// The most that `base` and the end of a token may be.
+/// The most bytes that a text may have, and the most that `base` and the end of a token may be.
 pub const MAX_BYTES: u32 = 16_777_216;
 
 /// Bytes of a token record.
@@ -13,6 +13,11 @@ pub const RECORD_SIZE: usize = 6;
 pub const EVENT_SIZE: usize = 4;
 /// Words of an error.
 pub const ERROR_SIZE: usize = 6;
+
+/// Records that are enough for a text of so many bytes: it is proved that there are at most so many, the Eof included.
+pub const fn enough_records(text_bytes: usize) -> usize {
+    text_bytes + 1
+}
 
 /// Words that are enough for the events of so many records, at any entry: it is proved that there are at most three a record.
 pub const fn enough_event_words(records: usize) -> usize {

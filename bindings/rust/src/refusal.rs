@@ -1,10 +1,12 @@
-//! Why a list was not read to its end, or not stored whole.
+//! Why a text or a list was not read to its end, or not stored whole.
+
+use std::fmt;
 
 use crate::numbered::numbered;
 
 numbered! {
-    /// Why a list was not read to its end, or not stored whole. [`Answer::place`](crate::Answer::place) has the number of the record,
-    /// from 0, where nothing else is said. `PartialRecord` to `Bytes` leave both buffers untouched.
+    /// Why a text or a list was not read to its end, or not stored whole. The place is the number of a record, from 0, where nothing else is
+    /// said. `PartialRecord` to `Bytes` leave the events and the errors untouched, `TextTooLong` to `Tokens` all three buffers.
     Refusal {
         /// The place is the number of whole records.
         PartialRecord = 1 => "the byte length is no multiple of 6",
@@ -22,7 +24,44 @@ numbered! {
         Events = 7 => "the events do not fit",
         /// The place is 0. The buffers hold the first entries, and the counts are those of the full lists.
         Errors = 8 => "the errors do not fit",
+        /// The place is 16,777,216.
+        TextTooLong = 9 => "a text of more than 16,777,216 bytes",
+        /// The place is the first byte that cannot be UTF-8, from 0: what `valid_up_to` of [`Utf8Error`](std::str::Utf8Error) says.
+        NotUtf8 = 10 => "a text that is not UTF-8",
+        /// The place is 0.
+        Tokens = 11 => "the tokens do not fit",
+    }
+}
+
+impl Refusal {
+    /// The refusal of an answer; none if its number is 0.
+    pub(crate) fn answered(number: u32) -> Option<Refusal> {
+        (number != 0).then(|| Refusal::from_number(number).expect("a refusal is one of 1 to 11"))
     }
 }
 
 impl std::error::Error for Refusal {}
+
+/// A refusal, and where.
+#[derive(Clone, Copy, Debug, PartialEq, Eq, Hash)]
+pub struct Refused {
+    /// Why.
+    pub refusal: Refusal,
+    /// Where: see [`Refusal`].
+    pub place: usize,
+}
+
+impl Refused {
+    /// The refusal of an answer; none if its number is 0.
+    pub(crate) fn answered(number: u32, place: usize) -> Option<Refused> {
+        Refusal::answered(number).map(|refusal| Refused { refusal, place })
+    }
+}
+
+impl fmt::Display for Refused {
+    fn fmt(&self, f: &mut fmt::Formatter<'_>) -> fmt::Result {
+        write!(f, "{}, at {}", self.refusal, self.place)
+    }
+}
+
+impl std::error::Error for Refused {}

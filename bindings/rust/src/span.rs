@@ -18,7 +18,8 @@ impl Span {
         self.start == self.end
     }
 
-    /// The range to take from the text, if `base` was 0.
+    /// The range to take from the text. Spans of a text's run, and of [`Lexed::tokens`](crate::Lexed::tokens), count from the text's first byte. Those of a run over
+    /// records count from where `base` does.
     pub const fn range(self) -> Range<usize> {
         self.start as usize..self.end as usize
     }

@@ -64,6 +64,13 @@ impl Token {
         let [kind, ..] = self.kind.number().to_le_bytes();
         [a, b, c, d, kind, 0]
     }
+
+    /// The token of a record that this crate or the library wrote.
+    fn read(record: &[u8]) -> Token {
+        let number = u16::from_le_bytes([record[4], record[5]]);
+        let kind = TokenKind::from_number(number.into()).expect("a token has a kind of 1 to 16");
+        Token::new(kind, u32::from_le_bytes([record[0], record[1], record[2], record[3]]))
+    }
 }
 
 /// A list of token records, in the order of the text.
@@ -97,6 +104,16 @@ impl Records {
     /// How many records there are.
     pub fn count(&self) -> usize {
         self.bytes.len() / RECORD_SIZE
+    }
+
+    /// Records that the library wrote.
+    pub(crate) fn from_bytes(bytes: Vec<u8>) -> Records {
+        Records { bytes }
+    }
+
+    /// The tokens, in the order of the text.
+    pub fn iter(&self) -> impl Iterator<Item = Token> + '_ {
+        self.bytes.chunks_exact(RECORD_SIZE).map(Token::read)
     }
 
     /// The bytes that the library reads.

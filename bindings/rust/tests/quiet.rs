@@ -3,12 +3,12 @@
 mod common;
 
 use common::records;
-use deckmarten::{fits, is_regular, parse_document, Entry, Refusal, Room};
+use deckmarten::{fits, is_regular, parse_document, Entry, Refusal, Refused, Room, Verdict};
 
 #[test]
 fn documents_fit() {
     for text in ["$", " $", "a=1$", "a=1\n$", "#\n[a.b]\nc='\n\n[[d]]\n e={f=[1,2\n,3,],g=\"} #\n$"] {
-        assert!(fits(records(text).as_bytes(), 0), "{text:?}");
+        assert_eq!(fits(records(text).as_bytes(), 0), Verdict::Fits, "{text:?}");
     }
 }
 
@@ -19,7 +19,7 @@ fn lists_without_an_error_report_need_not_fit() {
         let records = records(text);
         let answer = room.parse(Entry::Document, records.as_bytes(), 0);
         assert_eq!((answer.refusal(), answer.error_count(), answer.is_quiet()), (None, 0, false), "{text:?}");
-        assert!(!fits(records.as_bytes(), 0), "{text:?}");
+        assert_eq!(fits(records.as_bytes(), 0), Verdict::DoesNotFit, "{text:?}");
     }
 }
 
@@ -29,7 +29,8 @@ fn irregular_lists_do_not_fit_even_if_quiet() {
     for text in ["", "a", "a=1", "a=1\n", "$$", "$$b", "a=1$b=2$", "  $"] {
         let records = records(text);
         assert!(room.parse(Entry::Document, records.as_bytes(), 0).is_quiet(), "{text:?}");
-        assert!(!is_regular(records.as_bytes()) && !fits(records.as_bytes(), 0), "{text:?}");
+        assert!(!is_regular(records.as_bytes()), "{text:?}");
+        assert_eq!(fits(records.as_bytes(), 0), Verdict::DoesNotFit, "{text:?}");
     }
     assert!(is_regular(records(" a = 1 $").as_bytes()));
 }
@@ -57,14 +58,17 @@ fn an_error_that_does_not_fit_is_not_quiet() {
 }
 
 #[test]
-fn refused_lists_do_not_fit() {
+fn lists_beyond_the_limits_are_not_judged() {
+    let refused = |refusal, place| Verdict::Refused(Refused { refusal, place });
     let good = records("a=1$");
-    assert!(fits(good.as_bytes(), 0));
-    assert!(!fits(&good.as_bytes()[1..], 0));
-    assert!(!fits(good.as_bytes(), 16_777_214));
-    assert!(fits(good.as_bytes(), 16_777_213));
-    assert!(!fits(records(&format!("a={}1{}$", "[".repeat(65), "]".repeat(65))).as_bytes(), 0));
-    assert!(fits(records(&format!("a={}1{}$", "[".repeat(64), "]".repeat(64))).as_bytes(), 0));
-    assert!(fits(records(&format!("{}$", "\n".repeat(65_535))).as_bytes(), 0));
-    assert!(!fits(records(&format!("{}$", "\n".repeat(65_536))).as_bytes(), 0));
+    let nested = |levels| records(&format!("a={}1{}$", "[".repeat(levels), "]".repeat(levels)));
+    let lines = |count| records(&format!("{}$", "\n".repeat(count)));
+    assert_eq!(fits(good.as_bytes(), 16_777_213), Verdict::Fits);
+    assert_eq!(fits(good.as_bytes(), 16_777_214), refused(Refusal::Bytes, 2));
+    assert_eq!(fits(&good.as_bytes()[1..], 0), refused(Refusal::PartialRecord, 3));
+    assert_eq!(fits(nested(64).as_bytes(), 0), Verdict::Fits);
+    assert_eq!(fits(nested(65).as_bytes(), 0), refused(Refusal::Depth, 66));
+    assert_eq!(fits(lines(65_535).as_bytes(), 0), Verdict::Fits);
+    assert_eq!(fits(lines(65_536).as_bytes(), 0), refused(Refusal::Records, 65_536));
+    assert!(Verdict::Fits.is_yes() && !Verdict::DoesNotFit.is_yes() && !refused(Refusal::Depth, 66).is_yes());
 }

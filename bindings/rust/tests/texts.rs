@@ -1,9 +1,10 @@
-//! The fourteen texts of document 01: the crate reads the files in examples/ as oracle/texts/texts.txt has their listings.
+//! The fourteen texts of document 01: the crate reads the files in examples/, and the texts themselves, as oracle/texts/texts.txt has their
+//! listings.
 
 use std::fmt::Write;
 use std::fs;
 
-use deckmarten::{Answer, Entry, Room};
+use deckmarten::{lex, text_fits, Answer, Entry, Room};
 
 /// The name of a case as the listing has it: `StdTableOpen` is `std_table_open`.
 fn listed(name: &str) -> String {
@@ -32,8 +33,16 @@ fn listing(answer: &Answer) -> String {
     lines
 }
 
-/// Number, entry and listing of each text.
-fn texts() -> Vec<(usize, Entry, String)> {
+/// A text of document 01.
+struct Text {
+    number: usize,
+    entry: Entry,
+    /// The text itself; none if its list does not end in an Eof, as a text's does.
+    text: Option<String>,
+    listing: String,
+}
+
+fn texts() -> Vec<Text> {
     let file = fs::read_to_string("../../oracle/texts/texts.txt").unwrap();
     let written: Vec<&str> = file.lines().filter(|line| !line.starts_with('#')).collect();
     let blocks = written.split(|line| line.is_empty()).filter(|block| !block.is_empty());
@@ -41,14 +50,20 @@ fn texts() -> Vec<(usize, Entry, String)> {
 }
 
 /// A text from its lines: `text NUMBER ENTRY EOF`, the notation, the listing.
-fn text(lines: &[&str]) -> (usize, Entry, String) {
+fn text(lines: &[&str]) -> Text {
     let head: Vec<&str> = lines[0].split(' ').collect();
     let entry = match head[2] {
         "document" => Entry::Document,
         "key" => Entry::Key,
         other => panic!("no text is read as {other}"),
     };
-    (head[1].parse().unwrap(), entry, lines[2..].iter().map(|line| format!("{line}\n")).collect())
+    let notation = lines[1].strip_prefix("notation ").unwrap().replace("\\n", "\n");
+    let listing = lines[2..].iter().map(|line| format!("{line}\n")).collect();
+    Text { number: head[1].parse().unwrap(), entry, text: (head[3] == "eof").then_some(notation), listing }
+}
+
+fn records(number: usize) -> Vec<u8> {
+    fs::read(format!("../../examples/text-{number:02}.bin")).unwrap()
 }
 
 #[test]
@@ -56,18 +71,41 @@ fn the_fourteen_texts_are_read_as_document_01_has_them() {
     let mut room = Room::new();
     let texts = texts();
     assert_eq!(texts.len(), 14);
-    for (number, entry, wanted) in texts {
-        let records = fs::read(format!("../../examples/text-{number:02}.bin")).unwrap();
-        assert_eq!(listing(&room.parse(entry, &records, 0)), wanted, "text {number}");
+    for text in texts {
+        assert_eq!(listing(&room.parse(text.entry, &records(text.number), 0)), text.listing, "text {}", text.number);
     }
+}
+
+#[test]
+fn twelve_of_them_are_texts_and_have_the_same_records() {
+    let mut room = Room::new();
+    let mut read = Vec::new();
+    for Text { number, text, listing: wanted, .. } in texts() {
+        let Some(text) = text else { continue };
+        assert_eq!(lex(text.as_bytes()).unwrap().records.as_bytes(), records(number), "text {number}");
+        assert_eq!(listing(&room.parse_text(text.as_bytes())), wanted, "text {number}");
+        read.push(number);
+    }
+    assert_eq!(read, [1, 2, 3, 4, 5, 6, 7, 8, 9, 12, 13, 14]);
 }
 
 #[test]
 fn five_of_them_are_quiet() {
     let mut room = Room::new();
-    let quiet = |(number, entry, _): &(usize, Entry, String)| {
-        room.parse(*entry, &fs::read(format!("../../examples/text-{number:02}.bin")).unwrap(), 0).is_quiet()
-    };
-    let quiet: Vec<usize> = texts().into_iter().filter(quiet).map(|text| text.0).collect();
+    let mut quiet = |text: &Text| room.parse(text.entry, &records(text.number), 0).is_quiet();
+    let quiet: Vec<usize> = texts().iter().filter(|text| quiet(text)).map(|text| text.number).collect();
     assert_eq!(quiet, [1, 2, 3, 8, 12]);
+    let fits = |text: &Text| text.text.as_ref().is_some_and(|text| text_fits(text.as_bytes()).is_yes());
+    assert_eq!(texts().iter().filter(|text| fits(text)).map(|text| text.number).collect::<Vec<_>>(), quiet);
+}
+
+#[test]
+fn the_two_texts_of_the_readme_have_their_records() {
+    for (name, fits) in [("job", true), ("ledger", false)] {
+        let text = fs::read(format!("../../examples/{name}.toml")).unwrap();
+        let records = fs::read(format!("../../examples/{name}.bin")).unwrap();
+        assert_eq!(lex(&text).unwrap().records.as_bytes(), records, "{name}");
+        assert_eq!(text_fits(&text).is_yes(), fits, "{name}");
+        assert_eq!(listing(&Room::new().parse_text(&text)), fs::read_to_string(format!("../../examples/{name}.txt")).unwrap());
+    }
 }

@@ -1,2 +1,3 @@
 pub mod ExportLaws
 pub mod VerdictExports
+pub mod TextExportLaws

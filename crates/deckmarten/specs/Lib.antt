@@ -1,3 +1,4 @@
 pub mod Exported
 pub mod Determined
 pub mod ExportedVerdicts
+pub mod ExportedTexts

@@ -36,7 +36,7 @@ fn taken(e: ExportedAnswer) -> Answer
 }
 
 // The C structure of a verdict.
-fn exported_verdict(v: Verdict) -> ExportedVerdict
+pub fn exported_verdict(v: Verdict) -> ExportedVerdict
     ensures { λ e. ⌜ plainVerdict e ≡ v ⌝ }
 {
     ExportedVerdict {

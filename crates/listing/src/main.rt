@@ -1,5 +1,6 @@
 // The listing program: reads token records from standard input and prints what the document entry gives for them at base 0, an
-// event or an error a line. More than 3,072 bytes print `input too long`, a refusal prints `refused N place P`.
+// event or an error a line. More than 3,072 bytes print `input too long`, a refusal prints `refused N place P`. Input that cannot be read to
+// its end is a line on standard error, and standard output stays empty.
 mod naming;
 mod printing;
 
@@ -29,6 +30,13 @@ fn list(s: &[u8]) {
     print_errors(&errors, error_count);
 }
 
+// Whether standard input has come to its end. `read_full` stops there, and where a read fails: only one more read, which gives nothing and does not
+// fail, tells that all of the input was read.
+fn at_end() -> bool {
+    let mut beyond = [0u8; 1];
+    libc::read(0, &mut beyond) == 0
+}
+
 // One byte more than the most is asked for, so that longer input shows.
 fn main() {
     let mut input = [0u8; 3073];
@@ -37,5 +45,9 @@ fn main() {
         io::write_all(1, b"input too long\n");
         return;
     }
-    list(&input[..n]);
+    if at_end() {
+        list(&input[..n]);
+        return;
+    }
+    io::write_all(2, b"listing: standard input cannot be read\n");
 }

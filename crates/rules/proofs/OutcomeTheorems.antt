@@ -1,5 +1,5 @@
 -- Demand 3 over what an entry answers and leaves in its event buffer: the theorems of Demand.antt, carried from the rules' items to the
--- outcome by OutcomeLaws.antt. Nothing here needs to be believed.
+-- outcome by OutcomeLaws.antt. Proved; nothing here needs to be believed.
 use mathlib.Core.Path.{_≡_, refl, ap, sym, subst, _∙_}
 use mathlib.Core.Bool.{Bool, true, false}
 use mathlib.Core.Logic.{_↔_}
@@ -68,7 +68,7 @@ module _ (s : List ℕ) (base : ℕ) (events errors : List ℕ) where
       ∙ ap (eventsIn (length (eventsOf tokens items))) (all-fit eventSize (eventsOf tokens items) events (o .fits))
       ∙ events-back tokens items (drop (length (joined (eventsOf tokens items))) events)
 
-  -- what fits is what a quiet run has read, whatever else is supposed
+  -- what a quiet run has read fits: of room and depth nothing is supposed
   pub outcome-then-fits : Regular tokens → QuietRun (documentRun s base events errors) → FitsWithin maxDepth tokens
   outcome-then-fits g r = quiet-fits-within base tokens (run-laid r) g .0 (run-quiet r)
 

@@ -1,4 +1,4 @@
--- The examples of specs/RuledOut.antt, refuted. Nothing here needs to be believed.
+-- The examples of specs/RuledOut.antt, refuted. Proved; nothing here needs to be believed.
 use mathlib.Core.Path.{_≡_, refl, ap, subst}
 use mathlib.Core.List.{List, [], _∷_}
 use Prim.Native.Nat.{ℕ}
@@ -52,7 +52,7 @@ value-first (aScalar (unquotedScalar itIsAtom r)) e = omega (arith, ap numberOf 
 value-first (anArray i) e = omega (arith, ap numberOf e)
 value-first (anInlineTable i) e = omega (arith, ap numberOf e)
 
--- what follows a line at the beginning of this list is nothing but the whole list
+-- the line with which this list begins is empty, so that an Atom follows it, or has a value
 without-value-line : {N : Inside} {k : Kind} {a b : ℕ} {rest : List Tok} → (k ≡ Atom → ⊥) → Line N withoutValue (tok k a b ∷ rest) → ⊥
 without-value-line n (aLine noWhitespace noExpression noWhitespace noComment) = n refl
 without-value-line n (aLine noWhitespace (pairExpression (aPair (aKey atomPart noDot) noWhitespace noWhitespace v)) w c) = value-first v refl

@@ -68,16 +68,6 @@ pub record Regular (ts : List Tok) : Type 0 where
   pub ends : OneEofLast ts
   pub apart : NoAdjacentWhitespace ts
 
--- where the text ends, of which the tokens begin at p
-abbrev pub textEnd : ℕ → List Tok → ℕ
-textEnd p [] = p
-textEnd p (tok k a b ∷ ts) = textEnd b ts
-
--- the first n events in a buffer, each four words: kind, encoding, start, end
-unfoldable pub eventsIn : ℕ → List ℕ → List (List ℕ)
-eventsIn zero buffer = []
-eventsIn (suc n) buffer = take eventSize buffer ∷ eventsIn n (drop eventSize buffer)
-
 -- a run of the document entry on the record bytes s, with the two buffers
 abbrev pub documentRun : List ℕ → ℕ → List ℕ → List ℕ → Outcome
 documentRun s base events errors = outcome documentEntry s base events errors
@@ -89,6 +79,16 @@ pub record Ready (s : List ℕ) (base : ℕ) (events errors : List ℕ) : Type 0
   pub passed : checked s base ≡ Checked.Passed
   pub regular : Regular (allTokens s base)
   pub room : documentRun s base events errors .answer .refusal ≡ 7 → ⊥
+
+-- where the text ends, of which the tokens begin at p
+abbrev pub textEnd : ℕ → List Tok → ℕ
+textEnd p [] = p
+textEnd p (tok k a b ∷ ts) = textEnd b ts
+
+-- the first n events in a buffer, each four words: kind, encoding, start, end
+unfoldable pub eventsIn : ℕ → List ℕ → List (List ℕ)
+eventsIn zero buffer = []
+eventsIn (suc n) buffer = take eventSize buffer ∷ eventsIn n (drop eventSize buffer)
 
 -- the events that a run left in its buffer
 abbrev pub eventsLeft : Outcome → List (List ℕ)

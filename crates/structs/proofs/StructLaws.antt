@@ -1,21 +1,23 @@
--- Laws of records made from structs: their length, one record stored, a turn of the copying loop, and the refusal of a list that is too long.
+-- Laws of records made from structs: their length, a turn of the copying loop, and the refusal of a list that is too long.
 -- Proved; nothing here needs to be believed.
 use mathlib.Core.Path.{_≡_, refl, sym, ap, _∙_}
 use mathlib.Core.Bool.{true}
-use mathlib.Core.List.{List, [], _∷_, _++_, append-assoc}
-use Prim.Native.Nat.{ℕ, suc, _+_, _-_, _*_, _/_, _%_, _≤_, _<_}
+use mathlib.Core.List.{List, [], _∷_, _++_}
+use Prim.Native.Nat.{ℕ, _+_, _*_, _/_, _%_, _≤_, _<_}
 use native.Mathlib.Omega.{arith}
 use native.Mathlib.Numerals.{add-one}
 use lib.Dec.{eqb, ltb}
-use lib.ListN.{length, getD, take, drop, set, length-append, take-append-drop, drop-of-length-le}
-use lib.Seq.{sets-eq, take-at, drop-append-add, drop-drop, drop-cons, length-take-le}
+use lib.ListN.{length, getD, take, drop, length-drop, take-append-drop, drop-of-length-le}
+use lib.Seq.{take-at, drop-cons}
 use borrow.Author.Tests.{lt-ltb, eq-eqb}
 use Rattle.token.specs.Limits.{maxRecords}
 use Rattle.token.specs.Check.{checked}
+use Rattle.token.specs.Writing.{recordOf, putAt}
+use Rattle.token.specs.WritingLaws.{writtenFrom, written-record}
 use Rattle.rules.specs.Entries.{documentEntry}
 use Rattle.rules.specs.Answer.{outcome}
 use Rattle.structs.specs.declared.Token.{Token}
-use Rattle.structs.specs.Structs.{recordOf, recordsOf, putAt}
+use Rattle.structs.specs.Structs.{recordsOf}
 
 -- what stands for an element beyond the end
 abbrev pub none : Token
@@ -30,53 +32,30 @@ length-records (y ∷ ys) = let h = length-records ys in omega (arith, h)
 pub first-records : (ys : List Token) (s : List ℕ) → take (6 * length ys) (recordsOf ys ++ s) ≡ recordsOf ys
 first-records ys s = take-at (recordsOf ys) s (6 * length ys) (length-records ys)
 
--- six stores in a row are one record
-pub six-stores : (s : List ℕ) (k a b c d e f : ℕ) → k + 6 ≤ length s
-    → set (set (set (set (set (set s k a) (k + 1) b) (k + 2) c) (k + 3) d) (k + 4) e) (k + 5) f ≡ take k s ++ (a ∷ b ∷ c ∷ d ∷ e ∷ f ∷ []) ++ drop (k + 6) s
-six-stores s k a b c d e f h =
-    let e1 : k + 1 ≡ suc k = omega arith in
-    let e2 : k + 2 ≡ suc (suc k) = omega arith in
-    let e3 : k + 3 ≡ suc (suc (suc k)) = omega arith in
-    let e4 : k + 4 ≡ suc (suc (suc (suc k))) = omega arith in
-    let e5 : k + 5 ≡ suc (suc (suc (suc (suc k)))) = omega arith in
-    rw (e1, e2, e3, e4, e5) (sets-eq (a ∷ b ∷ c ∷ d ∷ e ∷ f ∷ []) s k h)
-
--- where record i was put: what stands before the end of it, and what stands behind
-put-length : (s : List ℕ) (i : ℕ) (t : Token) → 6 * i + 6 ≤ length s → length (take (6 * i) s ++ recordOf t) ≡ 6 * i + 6
-put-length s i t h = length-append (take (6 * i) s) (recordOf t) ∙ ap (λ (k : ℕ). k + 6) (length-take-le (6 * i) s (omega arith))
-
-put-take : (s : List ℕ) (i : ℕ) (t : Token) → 6 * i + 6 ≤ length s → take (6 * (i + 1)) (putAt s i t) ≡ take (6 * i) s ++ recordOf t
-unfolding putAt
-put-take s i t h = take-at (take (6 * i) s ++ recordOf t) (drop (6 * i + 6) s) (6 * (i + 1)) (put-length s i t h ∙ omega arith)
-
-put-drop : (s : List ℕ) (i n : ℕ) (t : Token) → i < n → 6 * n ≤ length s → drop (6 * n) (putAt s i t) ≡ drop (6 * n) s
-unfolding putAt
-put-drop s i n t less h =
-    let p : List ℕ = take (6 * i) s ++ recordOf t in
-    let l : length p ≡ 6 * i + 6 = put-length s i t (omega arith) in
-    let e : 6 * n ≡ length p + (6 * n - (6 * i + 6)) = omega (arith, l) in
-    let e′ : 6 * i + 6 + (6 * n - (6 * i + 6)) ≡ 6 * n = omega arith in
-    ap (λ (k : ℕ). drop k (putAt s i t)) e
-    ∙ drop-append-add p (drop (6 * i + 6) s) (6 * n - (6 * i + 6))
-    ∙ drop-drop (6 * n - (6 * i + 6)) (6 * i + 6) s
-    ∙ ap (λ (k : ℕ). drop k s) e′
-
 -- the records of the structs before i are in s: what the loop is to leave, from there
 abbrev pub Copied : List Token → ℕ → List ℕ → List ℕ
 Copied ys i s = take (6 * i) s ++ (recordsOf (drop i ys) ++ drop (6 * length ys) s)
 
-records-from : (ys : List Token) (i : ℕ) → i < length ys → recordsOf (drop i ys) ≡ recordOf (getD ys i none) ++ recordsOf (drop (i + 1) ys)
+records-from : (ys : List Token) (i : ℕ) → i < length ys → recordsOf (drop i ys) ≡ recordOf (getD ys i none .length) (getD ys i none .kind) ++ recordsOf (drop (i + 1) ys)
 unfolding recordsOf
 records-from ys i less = rw (add-one, drop-cons ys i none)
 
-pub copy-step : (ys : List Token) (i : ℕ) (s : List ℕ) → i < length ys → 6 * length ys ≤ length s → Copied ys (i + 1) (putAt s i (getD ys i none)) ≡ Copied ys i s
+-- that is what writing the records from i on leaves
+copied-is : (ys : List Token) (i : ℕ) (s : List ℕ) → i ≤ length ys → Copied ys i s ≡ writtenFrom (recordsOf (drop i ys)) i s
+copied-is ys i s h =
+    let l = length-records (drop i ys) in
+    let e : 6 * length ys ≡ 6 * i + length (recordsOf (drop i ys)) = omega (arith, l, length-drop i ys) in
+    ap (λ (k : ℕ). take (6 * i) s ++ (recordsOf (drop i ys) ++ drop k s)) e
+
+pub copy-step : (ys : List Token) (i : ℕ) (s : List ℕ) → i < length ys → 6 * length ys ≤ length s → Copied ys (i + 1) (putAt s i (getD ys i none .length) (getD ys i none .kind)) ≡ Copied ys i s
 copy-step ys i s less h =
     let t : Token = getD ys i none in
-    ap (λ (l : List ℕ). l ++ (recordsOf (drop (i + 1) ys) ++ drop (6 * length ys) (putAt s i t))) (put-take s i t (omega arith))
-    ∙ ap (λ (l : List ℕ). (take (6 * i) s ++ recordOf t) ++ (recordsOf (drop (i + 1) ys) ++ l)) (put-drop s i (length ys) t less h)
-    ∙ append-assoc (take (6 * i) s) (recordOf t) (recordsOf (drop (i + 1) ys) ++ drop (6 * length ys) s)
-    ∙ ap (λ (l : List ℕ). take (6 * i) s ++ l) (sym (append-assoc (recordOf t) (recordsOf (drop (i + 1) ys)) (drop (6 * length ys) s)))
-    ∙ ap (λ (l : List ℕ). take (6 * i) s ++ (l ++ drop (6 * length ys) s)) (sym (records-from ys i less))
+    let l = length-records (drop (i + 1) ys) in
+    let room : 6 * i + 6 + length (recordsOf (drop (i + 1) ys)) ≤ length s = omega (arith, l, length-drop (i + 1) ys) in
+    copied-is ys (i + 1) (putAt s i (t .length) (t .kind)) (omega arith)
+    ∙ written-record (recordsOf (drop (i + 1) ys)) i (t .length) (t .kind) s room
+    ∙ ap (λ (r : List ℕ). writtenFrom r i s) (sym (records-from ys i less))
+    ∙ sym (copied-is ys i s (omega arith))
 
 pub copy-done : (ys : List Token) (i : ℕ) (s : List ℕ) → i ≤ length ys → length ys ≤ i → Copied ys i s ≡ s
 unfolding recordsOf

@@ -1,30 +1,16 @@
 -- The record bytes of token structs. Assumes nothing.
 use mathlib.Core.Path.{_≡_}
 use mathlib.Core.List.{List, [], _∷_, _++_}
-use Prim.Native.Nat.{ℕ, _+_, _*_, _/_, _%_, _<_, _^_}
-use lib.ListN.{length, take, drop}
+use Prim.Native.Nat.{ℕ, _*_, _<_, _^_}
+use lib.ListN.{length}
 use Rattle.token.specs.Records.{lengthAt, kindNumberAt}
+use Rattle.token.specs.Writing.{recordOf}
 use Rattle.structs.specs.declared.Token.{Token}
 
--- the record of a struct: the four bytes of its length, least first, then the two bytes of its kind, least first
-abbrev pub recordOf : Token → List ℕ
-recordOf t =
-    t .length % 256
-    ∷ t .length / 256 % 256
-    ∷ t .length / 65536 % 256
-    ∷ t .length / 16777216 % 256
-    ∷ t .kind % 256
-    ∷ t .kind / 256 % 256
-    ∷ []
-
--- the records of a list of structs, one after the other
+-- the records of a list of structs, one after the other: of each its length and its kind
 unfoldable pub recordsOf : List Token → List ℕ
 recordsOf [] = []
-recordsOf (t ∷ ts) = recordOf t ++ recordsOf ts
-
--- a list of records in which record i is the struct's, and all others are as they were
-unfoldable pub putAt : List ℕ → ℕ → Token → List ℕ
-putAt s i t = take (6 * i) s ++ recordOf t ++ drop (6 * i + 6) s
+recordsOf (t ∷ ts) = recordOf (t .length) (t .kind) ++ recordsOf ts
 
 -- n structs give n records of six bytes, and no byte more; and in the records of a list the record of a struct, whose fields have 32 and 16
 -- bits, has its length and its kind

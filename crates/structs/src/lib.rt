@@ -4,13 +4,15 @@ pub mod theorems;
 use grammar::entries::parse_document;
 use rules::answer::Answer;
 use token::check::MAX_RECORDS;
+use token::writing::put_record;
 ghost use mathlib.Core.Path.{_≡_};
 ghost use mathlib.Core.List.{_++_};
 ghost use Prim.Native.Nat.{_+_, _*_, _≤_};
 ghost use lib.ListN.{length, take, drop};
 ghost use Rattle.rules.specs.Entries.{documentEntry};
 ghost use Rattle.grammar.specs.Answers.{Answers};
-ghost use Rattle.structs.specs.Structs.{recordsOf, putAt};
+ghost use Rattle.token.specs.Writing.{putAt};
+ghost use Rattle.structs.specs.Structs.{recordsOf};
 
 // A token: its length in bytes, and the number of its kind.
 #[repr(C)]
@@ -22,20 +24,14 @@ pub struct Token {
 // Room for as many records as a list may have, six bytes each.
 const RECORD_BYTES: usize = 393216;
 
-// Record i: the length, least byte first, then the kind, least byte first.
+// Record i: the struct's.
 fn put(records: &mut [u8], i: usize, t: Token)
     requires { ⌜ 6 * i + 6 ≤ length (now records) ⌝ }
-    ensures { λ _. ⌜ now (records .exit) ≡ putAt (now (records .entry)) i t ⌝ }
+    ensures { λ _. ⌜ now (records .exit) ≡ putAt (now (records .entry)) i (t .length) (t .kind) ⌝ }
 {
-    let at = 6 * i;
     let length = t.length;
     let kind = t.kind;
-    records[at] = (length % 256) as u8;
-    records[at + 1] = (length / 256 % 256) as u8;
-    records[at + 2] = (length / 65536 % 256) as u8;
-    records[at + 3] = (length / 16777216 % 256) as u8;
-    records[at + 4] = (kind % 256) as u8;
-    records[at + 5] = (kind / 256 % 256) as u8;
+    put_record(records, i, length as usize, kind as usize);
 }
 
 // The records of all structs, one after the other.

@@ -1,6 +1,7 @@
 -- Laws of kinds and their numbers. Proved; nothing here needs to be believed.
 use mathlib.Core.Path.{_≡_, refl, ap, sym, _∙_}
-use Prim.Native.Nat.{ℕ, zero, suc}
+use Prim.Native.Nat.{ℕ, zero, suc, _≤_}
+use native.Mathlib.Omega.{arith}
 use Rattle.token.specs.declared.kind.Kind.{Kind}
 use Rattle.token.specs.declared.kind.Kind.the-variants.{Dot, Equals, Comma, LeftSquareBracket, RightSquareBracket, LeftCurlyBracket, RightCurlyBracket, Whitespace, Comment, Newline, LiteralString, BasicString, MlLiteralString, MlBasicString, Atom, Eof}
 use Rattle.token.specs.Kinds.{kindOf, numberOf}
@@ -24,6 +25,25 @@ kind-back MlLiteralString = refl
 kind-back MlBasicString = refl
 kind-back Atom = refl
 kind-back Eof = refl
+
+-- the numbers are 1 to 16
+pub number-range : (k : Kind) → (1 ≤ numberOf k) × (numberOf k ≤ 16)
+number-range Dot = (omega arith, omega arith)
+number-range Equals = (omega arith, omega arith)
+number-range Comma = (omega arith, omega arith)
+number-range LeftSquareBracket = (omega arith, omega arith)
+number-range RightSquareBracket = (omega arith, omega arith)
+number-range LeftCurlyBracket = (omega arith, omega arith)
+number-range RightCurlyBracket = (omega arith, omega arith)
+number-range Whitespace = (omega arith, omega arith)
+number-range Comment = (omega arith, omega arith)
+number-range Newline = (omega arith, omega arith)
+number-range LiteralString = (omega arith, omega arith)
+number-range BasicString = (omega arith, omega arith)
+number-range MlLiteralString = (omega arith, omega arith)
+number-range MlBasicString = (omega arith, omega arith)
+number-range Atom = (omega arith, omega arith)
+number-range Eof = (omega arith, omega arith)
 
 -- a kind is known by its number
 pub same-kind : (j k : Kind) → numberOf j ≡ numberOf k → j ≡ k

@@ -17,3 +17,8 @@ Spans Width.Some a b = a < b
 pub data Laid : ℕ → List Tok → Type 0 where
   laidNone : {p : ℕ} → Laid p []
   laidToken : {k : Kind} {p e : ℕ} {ts : List Tok} → Spans (widthOf k) p e → Laid e ts → Laid p (tok k p e ∷ ts)
+
+-- where tokens end that lie end to end from p
+abbrev pub endOf : ℕ → List Tok → ℕ
+endOf p [] = p
+endOf p (tok k a b ∷ ts) = endOf b ts

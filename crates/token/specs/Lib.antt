@@ -10,3 +10,7 @@ pub mod KindLaws
 pub mod CursorLaws
 pub mod SearchLaws
 pub mod CheckLaws
+pub mod Writing
+pub mod WritingLaws
+pub mod ReadingLaws
+pub mod LaidLaws

@@ -4,3 +4,4 @@ pub mod cursor;
 pub mod kind;
 pub mod record;
 pub mod span;
+pub mod writing;

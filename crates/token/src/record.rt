@@ -11,13 +11,25 @@ fn wide(byte: u8) -> u32
     byte as u32
 }
 
-// The length of record i: four bytes, least first.
-pub fn length_at(s: &[u8], i: usize) -> u32
+// The length of record i: four bytes, least first. Byte 0 holds bits 0 to 7, byte 1 bits 8 to 15, and so on.
+fn length_by_bytes(s: &[u8], i: usize) -> u32
     requires { ⌜ i < count (now s) ⌝ }
     ensures { λ r. ⌜ r ≡ lengthAt (now (s .entry)) i ⌝ }
 {
     let b = i * 6;
-    wide(s[b]) + wide(s[b + 1]) * 256 + wide(s[b + 2]) * 65536 + wide(s[b + 3]) * 16777216
+    let mut length = 0;
+    for byte in 0..4 {
+        length += wide(s[b + byte]) << (8 * byte);
+    }
+    length
+}
+
+// The same, for all who read lengths. The loop has a function of its own so that the compiler makes one load of the four bytes.
+pub fn length_at(s: &[u8], i: usize) -> u32
+    requires { ⌜ i < count (now s) ⌝ }
+    ensures { λ r. ⌜ r ≡ lengthAt (now (s .entry)) i ⌝ }
+{
+    length_by_bytes(s, i)
 }
 
 // The number of record i's kind: two bytes, least first.

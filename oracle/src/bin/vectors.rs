@@ -85,7 +85,7 @@ fn main() -> ExitCode {
 fn make(folder: &Path) -> Result<(), String> {
     let file = File::create(folder.join("data/vectors.bin")).map_err(|e| e.to_string())?;
     let mut maker = Maker {
-        feed: feeding::Feed::new(file, false),
+        feed: feeding::Feed::new(file, None),
         lines: String::new(),
     };
     maker.class("the fourteen texts", texts)?;

@@ -48,7 +48,8 @@ use denote.Triple.Call.{calls-at}
 use denote.Triple.Clauses.{ensured, lasts}
 use denote.Triple.Table.{entered, cited}
 use denote.Triple.Walked.{says, needs, Stays, stay-none-slice, stay-slice, walkOf, Walks, ends-at, walked, goes-none-slice, goes-slice, walk-meets}
-use Rattle.structs.specs.Structs.{recordsOf, putAt}
+use Rattle.token.specs.Writing.{putAt}
+use Rattle.structs.specs.Structs.{recordsOf}
 use Rattle.structs.specs.declared.Token.{Token}
 use Rattle.structs.proofs.StructLaws.{none, Copied, copy-step, copy-done}
 use Rattle.structs.proofs.Token as T
@@ -193,7 +194,7 @@ module _ {M : Type 1} (𝓤 : URA M) (H : Heap 𝓤) (A : Atoms 𝓤) (W : Given
         t = (i, (zs, (le, (same, so))))
 
         abbrev next : List ℕ
-        next = putAt zs i (elem i)
+        next = putAt zs i (elem i .length) (elem i .kind)
 
         within : 6 * i + 6 ≤ length zs
         within = omega arith

@@ -1,96 +1,32 @@
--- The six stores are the struct's record.
+-- The record writer of the token layer, with the struct's length and kind.
 -- Made by ./proofs from Proof.tmpl: change that.
-use Prim.Native.Nat.{_*_}
 use native.Mathlib.Omega.{arith}
-use lib.ListN.{length-set}
-use Rattle.structs.specs.Structs.{putAt}
-use Rattle.structs.proofs.StructLaws.{six-stores}
+use Rattle.token.specs.WritingLaws.{put-length}
 use borrow.Author.Needs.{needs}
 use Rattle.structs.proofs.put.Statement.{statement}
 use Rattle.structs.proofs.put.Tie as tie
 
-mul-at : tie.Need-mul-at
-mul-at c = search needs
+cast-put-record : tie.Need-cast-put-record
+cast-put-record c = search needs
 
-cast-records : tie.Need-cast-records
-cast-records c = search needs
+cast-put-record-2 : tie.Need-cast-put-record-2
+cast-put-record-2 c = search needs
 
-slice-write-records : tie.Need-slice-write-records
-slice-write-records c = search needs
-
-cast-records-2 : tie.Need-cast-records-2
-cast-records-2 c = search needs
-
-add-records : tie.Need-add-records
-add-records c = search needs
-
-slice-write-records-2 : tie.Need-slice-write-records-2
-slice-write-records-2 c = simp length-set (omega arith)
-
-cast-records-3 : tie.Need-cast-records-3
-cast-records-3 c = search needs
-
-add-records-2 : tie.Need-add-records-2
-add-records-2 c = search needs
-
-slice-write-records-3 : tie.Need-slice-write-records-3
-slice-write-records-3 c = simp length-set (omega arith)
-
-cast-records-4 : tie.Need-cast-records-4
-cast-records-4 c = search needs
-
-add-records-3 : tie.Need-add-records-3
-add-records-3 c = search needs
-
-slice-write-records-4 : tie.Need-slice-write-records-4
-slice-write-records-4 c = simp length-set (omega arith)
-
-cast-records-5 : tie.Need-cast-records-5
-cast-records-5 c = search needs
-
-add-records-4 : tie.Need-add-records-4
-add-records-4 c = search needs
-
-slice-write-records-5 : tie.Need-slice-write-records-5
-slice-write-records-5 c = simp length-set (omega arith)
-
-cast-records-6 : tie.Need-cast-records-6
-cast-records-6 c = search needs
-
-add-records-5 : tie.Need-add-records-5
-add-records-5 c = search needs
-
-slice-write-records-6 : tie.Need-slice-write-records-6
-slice-write-records-6 c = simp length-set (omega arith)
+put-record-requires : tie.Need-put-record-requires
+put-record-requires c κs = search needs
 
 same-length : tie.Need-same-length
 same-length c = search needs
 
 returns : tie.Need-returns
-unfolding putAt
-returns c = six-stores ((c .args) .records .now) (6 * (c .args) .i) _ _ _ _ _ _ (omega arith)
+returns c = search needs
 
 pub put-spec : {M : Type 1} → statement M
 put-spec =
     tie.close
     (tie.spec
-    mul-at
-    cast-records
-    slice-write-records
-    cast-records-2
-    add-records
-    slice-write-records-2
-    cast-records-3
-    add-records-2
-    slice-write-records-3
-    cast-records-4
-    add-records-3
-    slice-write-records-4
-    cast-records-5
-    add-records-4
-    slice-write-records-5
-    cast-records-6
-    add-records-5
-    slice-write-records-6
+    cast-put-record
+    cast-put-record-2
+    put-record-requires
     same-length
     returns)

@@ -1,14 +1,8 @@
--- A list that the check refuses is not read; else the walk, what is left behind it, and the answer.
+-- A list that the check refuses is not read; else it is what the walk promises.
 -- Made by ./proofs from Proof.tmpl: change that.
-use mathlib.Core.Path.{ap, sym, _∙_}
-use Prim.Native.Nat.{ℕ, _/_}
-use Rattle.rules.specs.Out.{_then_}
+use mathlib.Core.Path.{sym, _∙_}
 use Rattle.rules.specs.Entries.{documentEntry}
-use Rattle.rules.specs.Skipping.{eof}
-use Rattle.rules.specs.Limits.{maxDepth}
-use Rattle.rules.specs.Document.{document}
 use Rattle.grammar.proofs.AnswerLaws.{outcome-unread}
-use Rattle.grammar.proofs.EntryLaws.{start-good, start-rule, entry-answers}
 use borrow.Author.Needs.{needs}
 use Rattle.grammar.proofs.entries.parse_document.Statement.{statement}
 use Rattle.grammar.proofs.entries.parse_document.Tie as tie
@@ -22,17 +16,8 @@ enum-known-checked c = search needs
 enum-told : tie.Need-enum-told
 enum-told c = search needs
 
-new-requires : tie.Need-new-requires
-new-requires c κs = search needs
-
-document-requires : tie.Need-document-requires
-document-requires c κs = start-good ((c .before .before .before .before .before .before .before .before .before .args) .s .now) ((c .before .before .before .before .before .before .before .before .before .args) .base) _ (sym ((c .before .before .before .before .before .check) .ensures) ∙ (c .before .before .before .enum-told) .given .1) ((c .before .before .new) .ensures)
-
-closing-requires : tie.Need-closing-requires
-closing-requires c κs = (c .before .before .before .before .before .before .document) .ensures .good
-
-answer-of-requires : tie.Need-answer-of-requires
-answer-of-requires c κs = search needs
+read-document-requires : tie.Need-read-document-requires
+read-document-requires c κs = (sym ((c .before .before .before .before .check) .ensures) ∙ (c .before .before .enum-told) .given .1)
 
 returns : tie.Need-returns
 returns c = sym (outcome-unread documentEntry ((c .before .before .before .before .before .before .before .args) .s .now) ((c .before .before .before .before .before .before .before .args) .base) _ _ _ _ (sym ((c .before .before .before .check) .ensures) ∙ (c .before .checked) .given .1))
@@ -44,8 +29,7 @@ same-length-2 : tie.Need-same-length-2
 same-length-2 c = search needs
 
 returns-2 : tie.Need-returns-2
-returns-2 c =
-    entry-answers documentEntry ((c .before .before .before .before .before .before .before .before .before .before .before .before .before .before .before .before .before .before .before .before .before .before .args) .s .now) ((c .before .before .before .before .before .before .before .before .before .before .before .before .before .before .before .before .before .before .before .before .before .before .args) .base) _ _ (sym ((c .before .before .before .before .before .before .before .before .before .before .before .before .before .before .before .before .before .before .check) .ensures) ∙ (c .before .before .before .before .before .before .before .before .before .before .before .before .before .before .before .before .enum-told) .given .1) _ ((c .before .before .before .before .before .before .before .before .before .before .before .before .before .before .before .new) .ensures) _ _ _ _ (start-rule ((c .before .before .before .before .before .before .before .before .before .before .before .before .before .before .before .before .before .before .before .before .before .before .args) .s .now) ((c .before .before .before .before .before .before .before .before .before .before .before .before .before .before .before .before .before .before .before .before .before .before .args) .base) _ ((c .before .before .before .before .before .before .before .before .before .before .before .before .before .before .before .new) .ensures) (λ ts. document maxDepth ts then eof)) ((c .before .before .before .before .before .closing) .ensures _ _ _ ((c .before .before .before .before .before .before .before .before .before .before .before .before .document) .ensures)) _ _ (ap (λ (n : ℕ). n / 4) ((c .before .before .before .before .before .closing .kept .1 .1 .0) ∙ (c .before .before .before .before .before .before .before .before .before .before .before .before .document .kept .1 .1 .1 .1 .0))) (ap (λ (n : ℕ). n / 6) ((c .before .before .before .before .before .closing .kept .1 .1 .1 .0) ∙ (c .before .before .before .before .before .before .before .before .before .before .before .before .document .kept .1 .1 .1 .1 .1 .0))) _ ((c .answer-of) .ensures)
+returns-2 c = (c .before .before .before .before .read-document) .ensures
 
 pub parse-document-spec : {M : Type 1} → statement M
 parse-document-spec =
@@ -54,10 +38,7 @@ parse-document-spec =
     check-requires
     enum-known-checked
     enum-told
-    new-requires
-    document-requires
-    closing-requires
-    answer-of-requires
+    read-document-requires
     returns
     same-length
     same-length-2

@@ -1,0 +1,89 @@
+// Text in, for programs in C and Rust: the lexer by itself, the joined entry, and the yes of a text.
+use crate::verdicts::ExportedVerdict;
+use crate::verdicts::exported_verdict;
+use lex::Lexed;
+use lex::lex;
+use text_rules::answer::TextAnswer;
+use texts::entry::parse_text;
+use texts::verdict::text_fits;
+ghost use mathlib.Core.Path.{_≡_};
+ghost use Rattle.deckmarten.specs.ExportedTexts.{plainLexed, plainText, ExportsLexed, ExportsText, ExportsTextVerdict};
+
+// The refusal's number (0 if none) and its place; where the tokens start; how many records there are.
+#[repr(C)]
+pub struct ExportedLexed {
+    pub refusal: u32,
+    pub place: usize,
+    pub base: u32,
+    pub records: usize,
+}
+
+// The same, and how many events and errors there are.
+#[repr(C)]
+pub struct ExportedTextAnswer {
+    pub refusal: u32,
+    pub place: usize,
+    pub base: u32,
+    pub records: usize,
+    pub events: usize,
+    pub errors: usize,
+}
+
+// The C structure of the lexer's answer.
+pub fn exported_lexed(r: Lexed) -> ExportedLexed
+    ensures { λ e. ⌜ plainLexed e ≡ r ⌝ }
+{
+    ExportedLexed {
+        refusal: r.refusal,
+        place: r.place,
+        base: r.base,
+        records: r.records,
+    }
+}
+
+// The C structure of the joined entry's answer.
+pub fn exported_text(r: TextAnswer) -> ExportedTextAnswer
+    ensures { λ e. ⌜ plainText e ≡ r ⌝ }
+{
+    ExportedTextAnswer {
+        refusal: r.refusal,
+        place: r.place,
+        base: r.base,
+        records: r.records,
+        events: r.events,
+        errors: r.errors,
+    }
+}
+
+#[no_mangle]
+pub extern "C" fn deckmarten_lex(text: &[u8], records: &mut [u8]) -> ExportedLexed
+    ensures { λ r. ⌜ ExportsLexed (now (text .entry)) (now (records .entry)) (now (records .exit)) r ⌝ }
+{
+    let r = lex(text, records);
+    exported_lexed(r)
+}
+
+#[no_mangle]
+pub extern "C" fn deckmarten_parse_text(
+    text: &[u8],
+    records: &mut [u8],
+    events: &mut [u32],
+    errors: &mut [u32],
+) -> ExportedTextAnswer
+    ensures { λ r. ⌜ ExportsText (now (text .entry)) (now (records .entry)) (now (events .entry)) (now (errors .entry)) (now (records .exit)) (now (events .exit)) (now (errors .exit)) r ⌝ }
+{
+    let r = parse_text(text, records, events, errors);
+    exported_text(r)
+}
+
+#[no_mangle]
+pub extern "C" fn deckmarten_text_fits(
+    text: &[u8],
+    records: &mut [u8],
+    events: &mut [u32],
+) -> ExportedVerdict
+    ensures { λ r. ⌜ ExportsTextVerdict (now (text .entry)) (now (records .entry)) (now (events .entry)) (now (records .exit)) (now (events .exit)) r ⌝ }
+{
+    let v = text_fits(text, records, events);
+    exported_verdict(v)
+}

@@ -1,0 +1,189 @@
+-- Laws of `lex`: the loops over the tokens, and what each way out leaves. Proved; nothing here needs to be believed.
+use mathlib.Core.Path.{_≡_, refl, ap, sym, _∙_}
+use mathlib.Core.Bool.{Bool, true, false, cond, false≢true}
+use mathlib.Core.List.{List, [], _∷_, _++_}
+use Prim.Native.Nat.{ℕ, zero, suc, _+_, _-_, _*_, _/_, _<_, _≤_}
+use native.Mathlib.Omega.{arith}
+use lib.ListN.{length, drop}
+use lib.Dec.{ltb}
+use borrow.Author.Tests.{lt-ltb, le-ltb, ltb-true, ltb-false}
+use Rattle.token.specs.declared.kind.Kind.the-variants.{Eof}
+use Rattle.token.specs.Limits.{maxEnd}
+use Rattle.token.specs.Kinds.{numberOf}
+use Rattle.token.specs.Tokens.{Tok, tok}
+use Rattle.token.specs.Writing.{recordOf, recordsOf, putAt}
+use Rattle.token.specs.WritingLaws.{put-length, writtenFrom, written-record, written-none, records-length}
+use Rattle.utf8.specs.Utf8.{validUpTo}
+use Rattle.scan.specs.declared.lexer.Found.{Found}
+use Rattle.scan.specs.Lexer.{tokensFrom, tokensOf, baseOf}
+use Rattle.scan.specs.Finding.{IsToken}
+use Rattle.scan.specs.LexerLaws.{lexer-on, lexer-end, lexer-some}
+use Rattle.lex.specs.declared.Lexed.{Lexed}
+use Rattle.lex.specs.Refusals.{textTooLong, notUtf8, noRoomForTokens}
+use Rattle.lex.specs.Lexed.{LexOutcome, refused, lexed, lexOutcome}
+
+-- a loop that counts: n tokens, and those still to come
+pub record Counted (s : List ℕ) (at₀ at n : ℕ) : Type 0 where
+  pub low : at ≤ length s
+  pub few : n ≤ at
+  pub total : n + length (tokensFrom s at) ≡ length (tokensFrom s at₀)
+
+pub counted-begun : (s : List ℕ) (at : ℕ) → at ≤ length s → Counted s at at 0
+counted-begun s at h = record { low = h; few = omega arith; total = omega arith }
+
+module _ {s : List ℕ} {at₀ at n : ℕ} (x : Counted s at₀ at n) where
+  pub counted-on : at < length s → (f : Found) → IsToken s at f → Counted s at₀ (f .end) (n + 1)
+  counted-on h f t =
+      record { low = t .within; few = omega (arith, x .few, t .end); total = omega (arith, x .total, ap length (lexer-on s at h f t)) }
+
+  pub counted-end : length s ≤ at → n + 1 ≡ length (tokensFrom s at₀)
+  counted-end h = omega (arith, x .total, ap length (lexer-end s at h))
+
+  -- there is a token still to come
+  pub counted-room : (room : ℕ) → 6 * length (tokensFrom s at₀) ≤ room → 6 * n + 6 ≤ room
+  counted-room room h = omega (arith, h, x .total, lexer-some 0 at (drop at s))
+
+-- a loop that writes: what is still to be written leads to what was to be written
+pub record Writes (s : List ℕ) (at₀ : ℕ) (out₀ : List ℕ) (at n : ℕ) (out : List ℕ) : Type 0 where
+  pub counted : Counted s at₀ at n
+  pub room : 6 * length (tokensFrom s at₀) ≤ length out
+  pub keeps : length out ≡ length out₀
+  pub same : writtenFrom (recordsOf (tokensFrom s at)) n out ≡ writtenFrom (recordsOf (tokensFrom s at₀)) 0 out₀
+
+pub writes-begun : (s : List ℕ) (at : ℕ) (out : List ℕ) → at ≤ length s → 6 * length (tokensFrom s at) ≤ length out → Writes s at out at 0 out
+writes-begun s at out h r = record { counted = counted-begun s at h; room = r; keeps = refl; same = refl }
+
+module _ {s : List ℕ} {at₀ at n : ℕ} {out₀ out : List ℕ} (x : Writes s at₀ out₀ at n out) where
+  here-room : 6 * n + 6 ≤ length out
+  here-room = counted-room (x .counted) (length out) (x .room)
+
+  -- all that is still to be written has room
+  rest-room : 6 * n + length (recordsOf (tokensFrom s at)) ≤ length out
+  rest-room = omega (arith, x .room, x .counted .total, records-length (tokensFrom s at))
+
+  pub writes-on : at < length s → (f : Found) → IsToken s at f → (out′ : List ℕ) → out′ ≡ putAt out n (f .end - at) (numberOf (f .kind)) → Writes s at₀ out₀ (f .end) (n + 1) out′
+  unfolding recordsOf
+  writes-on h f t out′ e =
+      let l = ap length e ∙ put-length out n (f .end - at) (numberOf (f .kind)) here-room in
+      let q : recordsOf (tokensFrom s at) ≡ recordOf (f .end - at) (numberOf (f .kind)) ++ recordsOf (tokensFrom s (f .end)) = ap recordsOf (lexer-on s at h f t) in
+      let r : 6 * n + 6 + length (recordsOf (tokensFrom s (f .end))) ≤ length out = omega (arith, rest-room, ap length q) in
+      record {
+        counted = counted-on (x .counted) h f t;
+        room = omega (arith, x .room, l);
+        keeps = l ∙ x .keeps;
+        same =
+            ap (λ (o : List ℕ). writtenFrom (recordsOf (tokensFrom s (f .end))) (n + 1) o) e
+            ∙ written-record (recordsOf (tokensFrom s (f .end))) n (f .end - at) (numberOf (f .kind)) out r
+            ∙ ap (λ (bytes : List ℕ). writtenFrom bytes n out) (sym q)
+            ∙ x .same;
+      }
+
+  -- behind the last token, Eof
+  pub writes-end : length s ≤ at → (out′ : List ℕ) → out′ ≡ putAt out n 0 (numberOf Eof) → (out′ ≡ recordsOf (tokensFrom s at₀) ++ drop (6 * length (tokensFrom s at₀)) out₀) × (length out′ ≡ length out₀)
+  unfolding recordsOf
+  writes-end h out′ e =
+      let z : at - at ≡ 0 = omega arith in
+      let q : recordsOf (tokensFrom s at) ≡ recordOf 0 (numberOf Eof) ++ [] = ap recordsOf (lexer-end s at h) ∙ ap (λ (m : ℕ). recordOf m (numberOf Eof) ++ []) z in
+      let b : List ℕ = recordsOf (tokensFrom s at₀) in
+      let k : 6 * 0 + length b ≡ 6 * length (tokensFrom s at₀) = omega (arith, records-length (tokensFrom s at₀)) in (
+        sym (written-none (n + 1) out′)
+            ∙ ap (λ (o : List ℕ). writtenFrom [] (n + 1) o) e
+            ∙ written-record [] n 0 (numberOf Eof) out (omega (arith, here-room))
+            ∙ ap (λ (bytes : List ℕ). writtenFrom bytes n out) (sym q)
+            ∙ x .same
+            ∙ ap (λ (m : ℕ). b ++ drop m out₀) k,
+        ap length e ∙ put-length out n 0 (numberOf Eof) here-room ∙ x .keeps,
+      )
+
+-- a loop that writes, or only counts
+abbrev pub Wrote : Bool → List ℕ → ℕ → List ℕ → ℕ → ℕ → List ℕ → Type 0
+Wrote true s at₀ out₀ at n out = Writes s at₀ out₀ at n out
+Wrote false s at₀ out₀ at n out = out ≡ out₀
+
+pub record Passing (writing : Bool) (s : List ℕ) (at₀ : ℕ) (out₀ : List ℕ) (at n : ℕ) (out : List ℕ) : Type 0 where
+  pub counted : Counted s at₀ at n
+  pub wrote : Wrote writing s at₀ out₀ at n out
+
+pub passing-begun : (writing : Bool) (s : List ℕ) (at : ℕ) (out : List ℕ) → at ≤ length s → (writing ≡ true → 6 * length (tokensFrom s at) ≤ length out) → Passing writing s at out at 0 out
+passing-begun true s at out h r = record { counted = counted-begun s at h; wrote = writes-begun s at out h (r refl) }
+passing-begun false s at out h r = record { counted = counted-begun s at h; wrote = refl }
+
+module _ {s : List ℕ} {at₀ at n : ℕ} {out₀ out : List ℕ} where
+  -- there is room for a token still to come
+  pub passing-room : (writing : Bool) → Passing writing s at₀ out₀ at n out → writing ≡ true → 6 * n + 6 ≤ length out
+  passing-room true x e = counted-room (x .counted) (length out) (x .wrote .room)
+  passing-room false x e = absurd (false≢true e)
+
+  pub passing-on : (writing : Bool) → Passing writing s at₀ out₀ at n out → at < length s → (f : Found) → IsToken s at f → (out′ : List ℕ) → out′ ≡ cond writing (putAt out n (f .end - at) (numberOf (f .kind))) out → Passing writing s at₀ out₀ (f .end) (n + 1) out′
+  passing-on true x h f t out′ e = record { counted = counted-on (x .counted) h f t; wrote = writes-on (x .wrote) h f t out′ e }
+  passing-on false x h f t out′ e = record { counted = counted-on (x .counted) h f t; wrote = e ∙ x .wrote }
+
+  pub passing-end : (writing : Bool) → Passing writing s at₀ out₀ at n out → length s ≤ at → (out′ : List ℕ) → out′ ≡ cond writing (putAt out n 0 (numberOf Eof)) out
+      → (out′ ≡ cond writing (recordsOf (tokensFrom s at₀) ++ drop (6 * length (tokensFrom s at₀)) out₀) out₀) × (length out′ ≡ length out₀)
+  passing-end true x h out′ e = writes-end (x .wrote) h out′ e
+  passing-end false x h out′ e = (e ∙ x .wrote, ap length (e ∙ x .wrote))
+
+  pub passing-keeps : (writing : Bool) → Passing writing s at₀ out₀ at n out → length out ≡ length out₀
+  passing-keeps true x = x .wrote .keeps
+  passing-keeps false x = ap length (x .wrote)
+
+-- one record keeps the length
+pub token-keeps : (writing : Bool) (out : List ℕ) (n size kind : ℕ) → (writing ≡ true → 6 * n + 6 ≤ length out) → length (cond writing (putAt out n size kind) out) ≡ length out
+token-keeps true out n size kind h = put-length out n size kind (h refl)
+token-keeps false out n size kind h = refl
+
+-- how many there are, if that is more than the room
+module _ (room total n : ℕ) (e : n ≡ total) where
+  pub beyond-many : room < n → n ≡ cond (ltb room total) total 0
+  beyond-many h = e ∙ sym (rw (lt-ltb room total (omega (arith, e, h))))
+
+pub beyond-few : (room total : ℕ) → total ≤ room → 0 ≡ cond (ltb room total) total 0
+beyond-few room total h = sym (rw (le-ltb room total h))
+
+-- the ways out
+module _ (s l : List ℕ) where
+  pub too-long : maxEnd < length s → lexOutcome s l ≡ refused textTooLong maxEnd 0 l
+  unfolding lexOutcome
+  too-long h = rw (lt-ltb maxEnd (length s) h)
+
+  module _ (h : length s ≤ maxEnd) where
+    pub not-utf8 : (n : ℕ) → n ≡ validUpTo s → n < length s → lexOutcome s l ≡ refused notUtf8 n 0 l
+    unfolding lexOutcome
+    not-utf8 n e v = rw (le-ltb maxEnd (length s) h, lt-ltb (validUpTo s) (length s) (omega (arith, e, v)), e)
+
+    module _ (n : ℕ) (e : n ≡ validUpTo s) (v : length s ≤ n) (base : ℕ) (b : base ≡ baseOf s) where
+      tokens-is : tokensFrom s base ≡ tokensOf s
+      unfolding tokensOf
+      tokens-is = rw b
+
+      abbrev Beyond : ℕ → Type 0
+      Beyond m = m ≡ cond (ltb (length l / 6) (length (tokensFrom s base))) (length (tokensFrom s base)) 0
+
+      some-tokens : 0 < length (tokensFrom s base)
+      some-tokens = lexer-some 0 base (drop base s)
+
+      no-room-by : (m : ℕ) → Beyond m → 0 < m → (t : Bool) → ltb (length l / 6) (length (tokensFrom s base)) ≡ t → (length l / 6 < length (tokensFrom s base)) × (m ≡ length (tokensFrom s base))
+      no-room-by m q p true r = (ltb-true _ _ r, q ∙ rw r)
+      no-room-by m q p false r = let z : m ≡ 0 = q ∙ rw r in absurd (omega (arith, z, p))
+
+      pub no-room : (m : ℕ) → Beyond m → 0 < m → lexOutcome s l ≡ refused noRoomForTokens 0 m l
+      unfolding lexOutcome
+      no-room m q p =
+          let r = no-room-by m q p (ltb (length l / 6) (length (tokensFrom s base))) refl in
+          let k = ap length tokens-is in
+          rw (le-ltb maxEnd (length s) h, le-ltb (validUpTo s) (length s) (omega (arith, e, v)), lt-ltb (length l / 6) (length (tokensOf s)) (omega (arith, r .0, k)), r .1 ∙ k)
+
+      with-room-by : (m : ℕ) → Beyond m → m ≤ 0 → (t : Bool) → ltb (length l / 6) (length (tokensFrom s base)) ≡ t → length (tokensFrom s base) ≤ length l / 6
+      with-room-by m q p true r = let z : m ≡ length (tokensFrom s base) = q ∙ rw r in absurd (omega (arith, z, p, some-tokens))
+      with-room-by m q p false r = ltb-false _ _ r
+
+      pub with-room : (m : ℕ) → Beyond m → m ≤ 0 → 6 * length (tokensFrom s base) ≤ length l
+      with-room m q p = let z = with-room-by m q p (ltb (length l / 6) (length (tokensFrom s base))) refl in omega (arith, z)
+
+      pub all-lexed : (m : ℕ) → Beyond m → m ≤ 0 → (k : ℕ) (l′ : List ℕ) → k ≡ length (tokensFrom s base) → l′ ≡ recordsOf (tokensFrom s base) ++ drop (6 * length (tokensFrom s base)) l
+          → record { answer = record { refusal = 0; place = 0; base = base; records = k }; buffer = l′ } ≡ lexOutcome s l
+      unfolding lexOutcome
+      all-lexed m q p k l′ i j =
+          let z = with-room-by m q p (ltb (length l / 6) (length (tokensFrom s base))) refl in
+          let y = ap length tokens-is in
+          rw (le-ltb maxEnd (length s) h, le-ltb (validUpTo s) (length s) (omega (arith, e, v)), le-ltb (length l / 6) (length (tokensOf s)) (omega (arith, z, y)), i ∙ y, j ∙ ap (λ (ts : List Tok). recordsOf ts ++ drop (6 * length ts) l) tokens-is, b)

@@ -1,0 +1,6 @@
+pub mod Refusals
+pub mod Lexed
+pub mod Tokens
+pub mod Texts
+pub mod LexLaws
+pub mod TextLaws

@@ -1,0 +1,2 @@
+pub mod TextTheorems
+pub mod TextsRead

@@ -1,0 +1,73 @@
+-- Laws of the run over a text: refused as the lexer refused it, else the document entry's run on the records that the lexer left. Proved;
+-- nothing here needs to be believed.
+use mathlib.Core.Path.{_≡_, refl, ap, sym, subst, _∙_}
+use mathlib.Core.Bool.{Bool, true, false}
+use mathlib.Core.List.{List}
+use Prim.Native.Nat.{ℕ, _*_, _≤_}
+use native.Mathlib.Omega.{arith}
+use lib.ListN.{length, take}
+use lib.Dec.{eqb}
+use borrow.Author.Tests.{eq-eqb, ne-eqb}
+use Rattle.token.specs.declared.check.Checked.{Checked}
+use Rattle.token.specs.Limits.{maxRecords}
+use Rattle.token.specs.Tokens.{allTokens}
+use Rattle.token.specs.Check.{checked}
+use Rattle.rules.specs.Answer.{Outcome}
+use Rattle.rules.specs.Quiet.{QuietRun}
+use Rattle.rules.specs.Premises.{Regular, documentRun}
+use Rattle.lex.specs.declared.Lexed.{Lexed}
+use Rattle.scan.specs.Lexer.{tokensOf}
+use Rattle.lex.specs.Lexed.{LexOutcome, lexOutcome}
+use Rattle.text_rules.specs.TextOutcome.{textOutcome, textRun, recordsLeft, reading, readingBy}
+use Rattle.text_rules.specs.TextPremises.{WithinLimits, RecordRoom}
+use Rattle.text_rules.specs.LexedLaws.{lexed-when, lexed-count, lexed-tokens, lexed-passes}
+use Rattle.text_rules.specs.RegularLaws.{text-regular}
+
+-- what the lexer answered, with the record buffer after it
+module _ (text records events errors : List ℕ) (r : Lexed) (after : List ℕ) (e : record { answer = r; buffer = after } ≡ lexOutcome text records) where
+  run-by : (b : Bool) → eqb (r .refusal) 0 ≡ b → textRun text records events errors ≡ readingBy b (record { answer = r; buffer = after }) events errors
+  unfolding textOutcome
+  run-by b q =
+      ap (λ (x : LexOutcome). reading x events errors) (sym e)
+      ∙ ap (λ (x : Bool). readingBy x (record { answer = r; buffer = after }) events errors) q
+
+  pub base-is : r .base ≡ textOutcome text records events errors .answer .base
+  unfolding textOutcome
+  base-is = ap (λ (x : LexOutcome). x .answer .base) e
+
+  pub buffer-is : after ≡ textOutcome text records events errors .records
+  unfolding textOutcome
+  buffer-is = ap (λ (x : LexOutcome). x .buffer) e
+
+  -- a text that was refused
+  module _ (h : r .refusal ≡ 0 → ⊥) where
+    pub run-refused : textRun text records events errors ≡ record { answer = record { refusal = r .refusal; place = r .place; events = 0; errors = 0 }; events = events; errors = errors }
+    run-refused = run-by false (ne-eqb _ _ h)
+
+    pub refused-loud : QuietRun (textRun text records events errors) → ⊥
+    refused-loud q = h (ap (λ (o : Outcome). o .answer .refusal) (sym run-refused) ∙ q .accepted)
+
+    pub refused-beyond : WithinLimits text → RecordRoom text records → ⊥
+    refused-beyond x room = h (ap (λ (y : LexOutcome). y .answer .refusal) (e ∙ lexed-when text records (x .short) (x .formed) room))
+
+  -- a text that was lexed
+  module _ (z : r .refusal ≡ 0) where
+    abbrev bytes : List ℕ
+    bytes = take (6 * r .records) after
+
+    pub refusal-none : lexOutcome text records .answer .refusal ≡ 0
+    refusal-none = ap (λ (x : LexOutcome). x .answer .refusal) (sym e) ∙ z
+
+    pub run-is : textRun text records events errors ≡ documentRun bytes (r .base) events errors
+    run-is = run-by true (eq-eqb _ _ z)
+
+    pub tokens-are : allTokens bytes (r .base) ≡ tokensOf text
+    tokens-are = ap (λ (x : LexOutcome). allTokens (recordsLeft x) (x .answer .base)) e ∙ lexed-tokens text records refusal-none
+
+    pub regular-are : Regular (allTokens bytes (r .base))
+    regular-are = subst Regular (sym tokens-are) (text-regular text)
+
+    pub few-pass : length (tokensOf text) ≤ maxRecords → checked bytes (r .base) ≡ Checked.Passed
+    few-pass few =
+        let h : lexOutcome text records .answer .records ≤ maxRecords = omega (arith, lexed-count text records refusal-none, few) in
+        ap (λ (y : LexOutcome). checked (recordsLeft y) (y .answer .base)) e ∙ lexed-passes text records refusal-none h

@@ -1,0 +1,161 @@
+// Demand 3 said of a text: theorems, each the contract of a function. The theorems about token lists speak of records that lie in memory, so the
+// function lexes the text into the record buffer and cites them of what stands there.
+use lex::lex;
+use rules::theorems::quiet_brackets_nest;
+use rules::theorems::quiet_events_determine_tokens;
+use rules::theorems::quiet_events_end_to_end;
+use rules::theorems::quiet_exactly_when_fits;
+use rules::theorems::quiet_exactly_when_fits_within;
+use rules::theorems::quiet_then_fits;
+ghost use mathlib.Core.Path.{_≡_};
+ghost use mathlib.Core.Logic.{_↔_};
+ghost use mathlib.Core.List.{[]};
+ghost use lib.ListN.{length};
+ghost use Rattle.rules.specs.Limits.{maxDepth};
+ghost use Rattle.rules.specs.Quiet.{QuietRun};
+ghost use Rattle.rules.specs.Grammar.{FitsWithin, Fits};
+ghost use Rattle.rules.specs.Premises.{NestedWithin, Regular, eventsLeft, EndToEnd, Nests, SameButForCuts};
+ghost use Rattle.scan.specs.Lexer.{tokensOf};
+ghost use Rattle.text_rules.specs.TextOutcome.{textOutcome, textRun, TextDetermined};
+ghost use Rattle.text_rules.specs.TextPremises.{TextReady};
+ghost use Rattle.text_rules.specs.TextsRead.{readings, documentTexts, outcomesOf, outcomesWritten, strangeTexts, toldBy, asGiven};
+
+// Two answers, each with the three buffers that it leaves, that both meet the joined entry's contract for the same input are equal.
+pub fn text_answers_are_determined(text: &[u8], records: &[u8], events: &[u32], errors: &[u32])
+    ensures { λ _. ⌜ TextDetermined (now (text .entry)) (now (records .entry)) (now (events .entry)) (now (errors .entry)) ⌝ }
+{}
+
+// Document 01's texts, from their bytes: the answer, and every word of the three buffers, which all hold `word` beforehand.
+pub fn texts_are_read(word: u32)
+    ensures { λ _. ⌜ outcomesOf word documentTexts ≡ outcomesWritten word readings ⌝ }
+{}
+
+// Texts at which the lexer takes more than TOML 1.0.0 has give these events and reports.
+pub fn strange_texts_are_read()
+    ensures { λ _. ⌜ toldBy strangeTexts ≡ asGiven strangeTexts ⌝ }
+{}
+
+// The tokens of every text have one Eof, the last, and no two Whitespace in a row.
+pub fn text_tokens_are_regular(text: &[u8])
+    ensures { λ _. ⌜ Regular (tokensOf (now (text .entry))) ⌝ }
+{}
+
+// If the run over a text is quiet, its tokens fit the token grammar. Nothing is supposed but the run.
+pub fn quiet_text_fits(text: &[u8], records: &mut [u8], events: &[u32], errors: &[u32])
+    ensures { λ _. ⌜ (QuietRun (textRun (now (text .entry)) (now (records .entry)) (now (events .entry)) (now (errors .entry)))
+        → Fits (tokensOf (now (text .entry)))) ⌝ }
+{
+    let lexed = lex(text, records);
+    let refusal = lexed.refusal;
+    if refusal == 0 {
+        let base = lexed.base;
+        let size = 6 * lexed.records;
+        quiet_then_fits(&records[..size], base, events, errors)
+    }
+}
+
+// Within the limits and with room the run is quiet exactly when the text's tokens fit the grammar with at most 64 arrays and inline tables open.
+pub fn text_quiet_exactly_when_fits_within(
+    text: &[u8],
+    records: &mut [u8],
+    events: &[u32],
+    errors: &[u32],
+)
+    ensures { λ _. ⌜ (TextReady (now (text .entry)) (now (records .entry)) (now (events .entry)) (now (errors .entry))
+        → (QuietRun (textRun (now (text .entry)) (now (records .entry)) (now (events .entry)) (now (errors .entry))) ↔ FitsWithin maxDepth (tokensOf (now (text .entry))))) ⌝ }
+{
+    let lexed = lex(text, records);
+    let refusal = lexed.refusal;
+    if refusal == 0 {
+        let base = lexed.base;
+        let size = 6 * lexed.records;
+        quiet_exactly_when_fits_within(&records[..size], base, events, errors)
+    }
+}
+
+// The same with the depth as a premise on the tokens: quiet exactly when they fit.
+pub fn text_quiet_exactly_when_fits(text: &[u8], records: &mut [u8], events: &[u32], errors: &[u32])
+    ensures { λ _. ⌜ (TextReady (now (text .entry)) (now (records .entry)) (now (events .entry)) (now (errors .entry))
+        → NestedWithin maxDepth (tokensOf (now (text .entry)))
+        → (QuietRun (textRun (now (text .entry)) (now (records .entry)) (now (events .entry)) (now (errors .entry))) ↔ Fits (tokensOf (now (text .entry))))) ⌝ }
+{
+    let lexed = lex(text, records);
+    let refusal = lexed.refusal;
+    if refusal == 0 {
+        let base = lexed.base;
+        let size = 6 * lexed.records;
+        quiet_exactly_when_fits(&records[..size], base, events, errors)
+    }
+}
+
+// The events that a quiet run over a text leaves lie end to end, from the base that is answered to the end of the text.
+pub fn text_events_end_to_end(text: &[u8], records: &mut [u8], events: &[u32], errors: &[u32])
+    ensures { λ _. ⌜ (QuietRun (textRun (now (text .entry)) (now (records .entry)) (now (events .entry)) (now (errors .entry)))
+        → EndToEnd (textOutcome (now (text .entry)) (now (records .entry)) (now (events .entry)) (now (errors .entry)) .answer .base)
+        (eventsLeft (textRun (now (text .entry)) (now (records .entry)) (now (events .entry)) (now (errors .entry))))
+        (length (now (text .entry)))) ⌝ }
+{
+    let lexed = lex(text, records);
+    let refusal = lexed.refusal;
+    if refusal == 0 {
+        let base = lexed.base;
+        let size = 6 * lexed.records;
+        quiet_events_end_to_end(&records[..size], base, events, errors)
+    }
+}
+
+// Their brackets nest: none is open before the first event or after the last.
+pub fn text_brackets_nest(text: &[u8], records: &mut [u8], events: &[u32], errors: &[u32])
+    ensures { λ _. ⌜ (QuietRun (textRun (now (text .entry)) (now (records .entry)) (now (events .entry)) (now (errors .entry)))
+        → Nests [] (eventsLeft (textRun (now (text .entry)) (now (records .entry)) (now (events .entry)) (now (errors .entry)))) []) ⌝ }
+{
+    let lexed = lex(text, records);
+    let refusal = lexed.refusal;
+    if refusal == 0 {
+        let base = lexed.base;
+        let size = 6 * lexed.records;
+        quiet_brackets_nest(&records[..size], base, events, errors)
+    }
+}
+
+// Two texts whose runs are quiet, answer the same base and leave the same events, word for word, have the same tokens below each event, but for
+// how an unquoted scalar was cut.
+pub fn text_events_determine_tokens(
+    text: &[u8],
+    records: &mut [u8],
+    events: &[u32],
+    errors: &[u32],
+    other_text: &[u8],
+    other_records: &mut [u8],
+    other_events: &[u32],
+    other_errors: &[u32],
+)
+    ensures { λ _. ⌜ (QuietRun (textRun (now (text .entry)) (now (records .entry)) (now (events .entry)) (now (errors .entry)))
+        → QuietRun (textRun (now («other_text» .entry)) (now («other_records» .entry)) (now («other_events» .entry)) (now («other_errors» .entry)))
+        → textOutcome (now (text .entry)) (now (records .entry)) (now (events .entry)) (now (errors .entry)) .answer .base
+        ≡ textOutcome (now («other_text» .entry)) (now («other_records» .entry)) (now («other_events» .entry)) (now («other_errors» .entry)) .answer .base
+        → eventsLeft (textRun (now (text .entry)) (now (records .entry)) (now (events .entry)) (now (errors .entry)))
+        ≡ eventsLeft (textRun (now («other_text» .entry)) (now («other_records» .entry)) (now («other_events» .entry)) (now («other_errors» .entry)))
+        → SameButForCuts (eventsLeft (textRun (now (text .entry)) (now (records .entry)) (now (events .entry)) (now (errors .entry)))) (tokensOf (now (text .entry))) (tokensOf (now («other_text» .entry)))) ⌝ }
+{
+    let lexed = lex(text, records);
+    let refusal = lexed.refusal;
+    if refusal == 0 {
+        let other_lexed = lex(other_text, other_records);
+        let other_refusal = other_lexed.refusal;
+        if other_refusal == 0 {
+            let base = lexed.base;
+            let size = 6 * lexed.records;
+            let other_size = 6 * other_lexed.records;
+            quiet_events_determine_tokens(
+                &records[..size],
+                &other_records[..other_size],
+                base,
+                events,
+                errors,
+                other_events,
+                other_errors,
+            )
+        }
+    }
+}

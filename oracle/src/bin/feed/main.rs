@@ -1,0 +1,109 @@
+//! The feeder of ./differ: makes token lists and texts, asks the oracle (document.rs and
+//! lexer/mod.rs compiled unchanged over stand-ins for the files that are not here), and
+//! writes frames with what the library must answer. src/frame.rs says what a frame is.
+//!
+//!     feed --all LENGTH          every list of up to LENGTH tokens, at each entry
+//!     feed --random COUNT SEED   COUNT random lists, and lists at the limits, at each entry
+//!     feed --fits LENGTH         whether it fits, of every list of up to LENGTH tokens
+//!     feed --texts MORE FOLDER   every short text over small alphabets, MORE symbols longer
+//!                                than by itself; UTF-8; the files of FOLDER; the limits
+//!     feed --random-texts COUNT SEED FOLDER
+//!                                COUNT random texts, some of them pieces of the files
+//!     feed --cases < cases       cases, a line each: those of batch mode, and
+//!                                `text RECORDBYTES EVENTWORDS ERRORWORDS x:HEX` and
+//!                                `fits BASE EVENTWORDS x:HEX`
+//!
+//! `--part K/N` behind these takes only the K-th of N parts of the texts. `--wrong WHAT` at
+//! the end asks for something else than the oracle gives, to show that the comparison
+//! can fail; src/feeding.rs says what.
+
+use std::io::BufRead as _;
+use std::io::Stdout;
+use std::process::ExitCode;
+
+use oracle::batch;
+use oracle::batch::number;
+use oracle::batch::Case;
+use oracle::feeding;
+use oracle::feeding::Wrong;
+use oracle::feeding::WRONGS;
+use oracle::texts::Rooms;
+use oracle::walk;
+use oracle::Entry;
+
+mod lists;
+mod rooms;
+mod texts;
+
+type Feed = feeding::Feed<Stdout>;
+
+/// Lists or texts from one note to the next.
+const NOTED: u64 = 250_000;
+const USAGE: &str = "usage: feed --all LENGTH | --random COUNT SEED | --fits LENGTH | --texts MORE FOLDER | \
+--random-texts COUNT SEED FOLDER | --cases, then perhaps --part K/N, then perhaps --wrong WHAT";
+
+fn main() -> ExitCode {
+    let words: Vec<String> = std::env::args().skip(1).collect();
+    let words: Vec<&str> = words.iter().map(String::as_str).collect();
+    match walk::on_large_stack(|| run(&words)) {
+        Ok(()) => ExitCode::SUCCESS,
+        Err(text) => {
+            eprintln!("feed: {text}");
+            ExitCode::from(2)
+        }
+    }
+}
+
+fn run(words: &[&str]) -> Result<(), String> {
+    let (words, wrong) = match words {
+        [before @ .., "--wrong", what] => (before, Some(wrong(what)?)),
+        _ => (words, None),
+    };
+    let (words, part) = match words {
+        [before @ .., "--part", part] => (before, texts::Part::of(part)?),
+        _ => (words, texts::Part::WHOLE),
+    };
+    let mut feed = Feed::new(std::io::stdout(), wrong);
+    match words {
+        ["--all", longest] => lists::all(&mut feed, number(longest)?)?,
+        ["--random", count, seed] => lists::random(&mut feed, number(count)?, number(seed)?)?,
+        ["--fits", longest] => lists::all_fits(&mut feed, number(longest)?)?,
+        ["--texts", more, folder] => texts::all(&mut feed, number(more)?, folder, part)?,
+        ["--random-texts", count, seed, folder] => {
+            texts::random(&mut feed, number(count)?, number(seed)?, folder, part)?;
+        }
+        ["--cases"] => {
+            for line in std::io::stdin().lock().lines() {
+                put_line(&mut feed, &line.map_err(|e| e.to_string())?)?;
+            }
+        }
+        _ => return Err(USAGE.to_string()),
+    }
+    feed.end()
+}
+
+fn wrong(what: &str) -> Result<Wrong, String> {
+    let found = WRONGS.iter().find(|known| known.0 == what);
+    found.map(|known| known.1).ok_or(format!("nothing wrong is called {what:?}"))
+}
+
+/// Adds the case in a line.
+fn put_line(feed: &mut Feed, line: &str) -> Result<(), String> {
+    let words: Vec<&str> = line.split_ascii_whitespace().collect();
+    match words.as_slice() {
+        ["text", records, events, errors, rest @ ..] => {
+            let room = Rooms {
+                record_bytes: number(records)?,
+                event_words: number(events)?,
+                error_words: number(errors)?,
+            };
+            feed.put_text(&batch::bytes(rest.iter().copied())?, |_| [room])
+        }
+        ["fits", base, events, rest @ ..] => {
+            let bytes = batch::bytes(rest.iter().copied())?;
+            let (base, events) = (number(base)?, number(events)?);
+            feed.put_fits(Case::at(Entry::Document, base, bytes), |_| [events])
+        }
+        _ => feed.put(batch::parse(line)?),
+    }
+}
