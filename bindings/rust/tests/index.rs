@@ -6,7 +6,8 @@ use common::records;
 use deckmarten::limits::{ENTRY_SIZE, MAX_RECORDS};
 use deckmarten::{headers, Entry, EventKind, Header, Refusal, Room};
 
-const JOBS: &str = "# jobs\nname = 'store-7'\n[agent]\nlog.level = 1\n[jobs.main]\n[[ jobs . \"main\" . copies ]] # one\nhost = {a=[1]}\n\
+const JOBS: &str =
+    "# jobs\nname = 'store-7'\n[agent]\nlog.level = 1\n[jobs.main]\n[[ jobs . \"main\" . copies ]] # one\nhost = {a=[1]}\n\
                     [[jobs.main.copies]]\n[jobs.\"main\"]\n[jobs.mail]\nx=1\n";
 
 /// Key parts, mark and events of each.
@@ -26,10 +27,8 @@ fn every_header_is_there_once_in_order() {
     assert_eq!(index.as_bytes().len(), 6 * ENTRY_SIZE);
     assert_eq!(&index.as_bytes()[..ENTRY_SIZE], [17, 0, 0, 0, 1, 0, 8, 0, 1, 0, 0, 0, 0, 12, 0, 0, 0]);
     // a table's events are its text; what stands before the first header is in none
-    let texts: Vec<String> = index
-        .headers()
-        .map(|header| answer.events_of(&header).map(|event| &JOBS[event.span.range()]).collect())
-        .collect();
+    let texts: Vec<String> =
+        index.headers().map(|header| answer.events_of(&header).map(|event| &JOBS[event.span.range()]).collect()).collect();
     assert_eq!(texts.concat(), JOBS[JOBS.find("[agent]").unwrap()..]);
     assert!(texts.iter().all(|text| text.starts_with('[')));
     assert_eq!(texts[4], "[jobs.\"main\"]\n");
@@ -51,7 +50,9 @@ fn tables_are_found_as_they_are_spelled() {
     assert_eq!(starts("jobs.\"main\".copies"), [26]);
     assert_eq!(starts("jobs.main.copies"), [54]);
     assert_eq!(starts("jobs.mail"), [68]);
-    for path in ["", ".", "jobs", "jobs.", "jobs.mai", "jobs.main.", ".jobs.main", "jobs.main.copies.x", "jobs .main", "host", "x"] {
+    for path in
+        ["", ".", "jobs", "jobs.", "jobs.mai", "jobs.main.", ".jobs.main", "jobs.main.copies.x", "jobs .main", "host", "x"]
+    {
         assert_eq!(index.find(text, path), None, "{path:?}");
     }
     // another text, or too little of it, has no such table and is no mistake
@@ -66,7 +67,10 @@ fn a_quoted_dot_is_no_dot_between_parts() {
     let answer = room.parse_text(text);
     let index = answer.index().unwrap();
     let found = |path: &str| index.find(text, path).map(|header| header.key_parts());
-    assert_eq!((found("\"a.b\""), found("a.b"), found("'a'.b"), found("\"a"), found("a")), (Some(1), Some(2), Some(2), None, None));
+    assert_eq!(
+        (found("\"a.b\""), found("a.b"), found("'a'.b"), found("\"a"), found("a")),
+        (Some(1), Some(2), Some(2), None, None)
+    );
 }
 
 #[test]
