@@ -1,7 +1,7 @@
 //! The driver of ./bench: makes a token list and has both parsers walk it, the library as the archive that rt writes and document.rs
 //! compiled unchanged over stand-ins for the files that are not here. Both get the same tokens, and buffers of the same size. With
 //! texts both go from bytes to events, the Rust by `from_utf8`, lexer/mod.rs and document.rs. A text is made by one run and read from its
-//! file by another, so that little but what is measured is counted.
+//! file by another, so that little but what is measured is counted. With tables one is found, by the index and by looking through all events.
 
 use std::io::Write as _;
 use std::process::ExitCode;
@@ -11,12 +11,13 @@ use std::time::Instant;
 mod cases;
 mod library;
 mod original;
+mod tables;
 mod texts;
 
 use oracle::lexer::Token;
 
 const USAGE: &str =
-    "usage: speed walk|check|time CASE SIZE | make CASE SIZE > FILE | text|alone|time-text FILE";
+    "usage: speed walk|check|time CASE SIZE | make CASE SIZE > FILE | text|alone|time-text|find FILE";
 
 /// How long each side is repeated where times are taken.
 const WHILE: Duration = Duration::from_millis(500);
@@ -82,6 +83,9 @@ pub struct TextBuffers {
 /// Both sides on the text in a file.
 fn on_text(mode: &str, file: &str) -> Result<(), String> {
     let bytes = std::fs::read(file).map_err(|error| format!("{file}: {error}"))?;
+    if mode == "find" {
+        return tables::find(&bytes);
+    }
     let most = bytes.len() + 1;
     let mut buffers = TextBuffers {
         records: vec![0; 6 * most],

@@ -27,6 +27,10 @@ pub fn text(case: &str, size: usize) -> Option<Vec<u8>> {
         "scripts" => {
             "# Größe, Höhe, Füße: ärgerlich für müde Prüfer 🦫🌙📦 über Öfen\n".repeat(size)
         }
+        // tables, each with a line
+        "tables" => (0..size)
+            .map(|number| format!("[jobs.n{number}]\nledger = {number}\n"))
+            .collect(),
         // scalars
         "scalars" => cases::scalars(size),
         // pairs of bytes, or bytes
