@@ -17,7 +17,7 @@ mod texts;
 use oracle::lexer::Token;
 
 const USAGE: &str =
-    "usage: speed walk|check|time CASE SIZE | make CASE SIZE > FILE | text|alone|time-text|find FILE";
+    "usage: speed walk|check|time CASE SIZE | make CASE SIZE > FILE | text|alone|time-text FILE | find FILE PATH";
 
 /// How long each side is repeated where times are taken.
 const WHILE: Duration = Duration::from_millis(500);
@@ -36,6 +36,7 @@ fn main() -> ExitCode {
 fn run(words: &[String]) -> Result<(), String> {
     let (mode, case, size) = match words {
         [mode, file] => return on_text(mode, file),
+        [mode, file, path] if mode == "find" => return tables::find(&read(file)?, path),
         [mode, case, size] => (mode, case, size),
         _ => return Err(USAGE.to_string()),
     };
@@ -80,12 +81,13 @@ pub struct TextBuffers {
     pub words: Buffers,
 }
 
+fn read(file: &str) -> Result<Vec<u8>, String> {
+    std::fs::read(file).map_err(|error| format!("{file}: {error}"))
+}
+
 /// Both sides on the text in a file.
 fn on_text(mode: &str, file: &str) -> Result<(), String> {
-    let bytes = std::fs::read(file).map_err(|error| format!("{file}: {error}"))?;
-    if mode == "find" {
-        return tables::find(&bytes);
-    }
+    let bytes = read(file)?;
     let most = bytes.len() + 1;
     let mut buffers = TextBuffers {
         records: vec![0; 6 * most],
