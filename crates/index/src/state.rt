@@ -68,7 +68,7 @@ fn parts_after(counting: bool, kind: u32, parts: usize) -> usize
 }
 
 // The state behind an event of the kind.
-fn stepped(state: IndexState, kind: u32) -> IndexState
+pub fn stepped(state: IndexState, kind: u32) -> IndexState
     ensures { λ r. ⌜ r ≡ stateAfter state kind ⌝ }
 {
     let at = state.at;
