@@ -1,10 +1,14 @@
 -- What the index builder knows, event by event. Assumes nothing.
-use Prim.Native.Nat.{ℕ, _+_, _-_}
+use mathlib.Core.Path.{_≡_}
+use Prim.Native.Nat.{ℕ, _+_, _-_, _*_, _≤_}
+use lib.ListN.{length}
+use Rattle.token.specs.Limits.{maxRecords}
+use Rattle.rules.specs.Answer.{eventSize}
 use mathlib.Core.Bool.{Bool, true, false, cond}
 use mathlib.Core.List.{List, [], _∷_}
 use lib.Dec.{eqb, ltb}
 use Rattle.index.specs.declared.state.IndexState.{IndexState}
-use Rattle.index.specs.Headers.{Header, opensHeader, closing}
+use Rattle.index.specs.Headers.{Header, opensHeader, closing, headersIn, entrySize}
 
 -- one more; a count stops at the largest number
 abbrev pub more : ℕ → ℕ
@@ -54,3 +58,10 @@ headerOf state = record { place = state .place; parts = state .parts; array = st
 abbrev pub ended : Bool → IndexState → List Header
 ended true state = cond (state .found) (headerOf state ∷ []) []
 ended false state = []
+
+-- the walk may begin: before the first of n events, which the buffer holds and which are not too many, and their entries have room
+pub record Walkable (state : IndexState) (events : List ℕ) (n : ℕ) (index : List ℕ) : Type 0 where
+  pub fresh : state ≡ fresh
+  pub few : n ≤ maxRecords
+  pub held : n * eventSize ≤ length events
+  pub room : entrySize * length (headersIn n events) ≤ length index

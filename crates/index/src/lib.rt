@@ -12,7 +12,7 @@ use crate::entry::ENTRY_SIZE;
 use crate::refusals::NO_ROOM_FOR_INDEX;
 use crate::refusals::NOT_QUIET;
 use crate::state::IndexState;
-use crate::walked::walked;
+use crate::walked::walk;
 use quiet::run::is_quiet;
 use rules::answer::Answer;
 use token::check::MAX_RECORDS;
@@ -20,11 +20,10 @@ ghost use mathlib.Core.Path.{_≡_};
 ghost use mathlib.Core.Bool.{true};
 ghost use mathlib.Core.Logic.{_↔_};
 ghost use mathlib.Core.List.{_++_};
-ghost use Prim.Native.Nat.{_*_, _≤_};
+ghost use Prim.Native.Nat.{_*_};
 ghost use lib.ListN.{length, drop};
-ghost use Rattle.token.specs.Limits.{maxRecords};
-ghost use Rattle.rules.specs.Answer.{eventSize};
 ghost use Rattle.index.specs.Headers.{entrySize, headersIn, indexBytes};
+ghost use Rattle.index.specs.States.{fresh, Walkable};
 ghost use Rattle.index.specs.Outcome.{Indexable, Indexes};
 
 // A refusal's number or 0, how many headers there are, and how many bytes their index has, or would have.
@@ -50,12 +49,10 @@ fn is_indexable(answer: Answer, events: &[u32]) -> bool
 
 // The entries of the first n events, which have room.
 fn write_index(events: &[u32], n: usize, index: &mut [u8])
-    requires { ⌜ n ≤ maxRecords ⌝ }
-    requires { ⌜ n * eventSize ≤ length (now events) ⌝ }
-    requires { ⌜ entrySize * length (headersIn n (now events)) ≤ length (now index) ⌝ }
+    requires { ⌜ Walkable fresh (now events) n (now index) ⌝ }
     ensures { λ _. ⌜ now (index .exit) ≡ indexBytes (headersIn n (now (events .entry))) ++ drop (entrySize * length (headersIn n (now (events .entry)))) (now (index .entry)) ⌝ }
 {
-    let state = IndexState {
+    let mut state = IndexState {
         at: 0,
         found: false,
         counting: false,
@@ -63,7 +60,7 @@ fn write_index(events: &[u32], n: usize, index: &mut [u8])
         parts: 0,
         array: false,
     };
-    walked(state, events, n, index);
+    walk(&mut state, events, n, index);
 }
 
 fn answered(refusal: u32, headers: usize, bytes: usize) -> Indexed

@@ -8,10 +8,8 @@ ghost use mathlib.Core.Path.{_≡_};
 ghost use mathlib.Core.List.{_++_};
 ghost use Prim.Native.Nat.{_+_, _*_, _≤_};
 ghost use lib.ListN.{length, drop};
-ghost use Rattle.token.specs.Limits.{maxRecords};
-ghost use Rattle.rules.specs.Answer.{eventSize};
 ghost use Rattle.index.specs.Headers.{entrySize, kindsFrom, headersIn, indexBytes};
-ghost use Rattle.index.specs.States.{fresh, stateBehind, ended};
+ghost use Rattle.index.specs.States.{stateBehind, ended, Walkable};
 ghost use Rattle.index.specs.Placing.{placed};
 
 // The header that the state is in is written as entry k, if one ends here. Answers how many entries there are now.
@@ -37,10 +35,7 @@ fn finish(index: &mut [u8], k: usize, ends: bool, state: IndexState) -> usize
 
 // The first n events.
 pub fn walked(state: IndexState, events: &[u32], n: usize, index: &mut [u8]) -> IndexState
-    requires { ⌜ state ≡ fresh ⌝ }
-    requires { ⌜ n ≤ maxRecords ⌝ }
-    requires { ⌜ n * eventSize ≤ length (now events) ⌝ }
-    requires { ⌜ entrySize * length (headersIn n (now events)) ≤ length (now index) ⌝ }
+    requires { ⌜ Walkable state (now events) n (now index) ⌝ }
     ensures { λ r. ⌜ (r ≡ stateBehind state (kindsFrom n 0 (now (events .entry)))) × (now (index .exit) ≡ indexBytes (headersIn n (now (events .entry))) ++ drop (entrySize * length (headersIn n (now (events .entry)))) (now (index .entry))) ⌝ }
 {
     let mut builder = state;
@@ -55,4 +50,12 @@ pub fn walked(state: IndexState, events: &[u32], n: usize, index: &mut [u8]) -> 
     }
     finish(index, k, true, builder);
     builder
+}
+
+// The builder is lent to the walk and altered there: it is left as it is behind the first n events.
+pub fn walk(state: &mut IndexState, events: &[u32], n: usize, index: &mut [u8])
+    requires { ⌜ Walkable (now state) (now events) n (now index) ⌝ }
+    ensures { λ _. ⌜ (now (state .exit) ≡ stateBehind (now (state .entry)) (kindsFrom n 0 (now (events .entry)))) × (now (index .exit) ≡ indexBytes (headersIn n (now (events .entry))) ++ drop (entrySize * length (headersIn n (now (events .entry)))) (now (index .entry))) ⌝ }
+{
+    *state = walked(*state, events, n, index);
 }

@@ -1,5 +1,6 @@
 -- The refusals in their order, else the entries.
 -- Made by ./proofs from Proof.tmpl: change that.
+use mathlib.Core.Path.{refl}
 use native.Mathlib.Omega.{arith}
 use Rattle.index.proofs.CountLaws.{headers-few}
 use Rattle.index.proofs.IndexLaws.{not-quiet, no-room, written}
@@ -23,7 +24,7 @@ returns : tie.Need-returns
 returns c = record { quiet = (c .before .before .before .before .is-indexable) .result; tells = (c .before .before .before .before .is-indexable) .ensures; same = no-room ((c .before .before .before .before .before .before .before .args) .answer) ((c .before .before .before .before .before .before .before .args) .events .now) ((c .before .before .before .before .before .before .before .args) .index .now) ((c .before .before .before .before .is-indexable) .result) ((c .before .before .count-headers) .result) _ ((c .before .before .before .if1) .taken) ((c .before .before .count-headers) .ensures) ((c .before .if2) .taken) ((c .answered) .ensures) }
 
 write-index-requires : tie.Need-write-index-requires
-write-index-requires c κs = (((c .before .before .before .before .is-indexable) .ensures .0 ((c .before .before .before .if1) .taken)) .few, (((c .before .before .before .before .is-indexable) .ensures .0 ((c .before .before .before .if1) .taken)) .held, omega (arith, (c .before .if2) .left, (c .before .before .count-headers) .ensures)))
+write-index-requires c κs = record { fresh = refl; few = ((c .before .before .before .before .is-indexable) .ensures .0 ((c .before .before .before .if1) .taken)) .few; held = ((c .before .before .before .before .is-indexable) .ensures .0 ((c .before .before .before .if1) .taken)) .held; room = omega (arith, (c .before .if2) .left, (c .before .before .count-headers) .ensures) }
 
 answered-requires-2 : tie.Need-answered-requires-2
 answered-requires-2 c κs = search needs

@@ -19,7 +19,7 @@ abbrev μ-loop : tie.MeasureT-loop
 μ-loop events n index₀ builder₀ k₀ i₀ index builder k i = n - i
 
 loop-holds : tie.Need-loop-holds Inv-loop μ-loop
-loop-holds c = walking-begun _ _ _ _ ((c .before .before .pre) .0) ((c .before .before .pre) .1 .0) ((c .before .before .pre) .1 .1 .1)
+loop-holds c = walking-begun _ _ _ _ ((c .before .before .pre) .fresh) ((c .before .before .pre) .few) ((c .before .before .pre) .room)
 
 mul-kind : tie.Need-mul-kind Inv-loop μ-loop
 mul-kind c = search needs
@@ -55,9 +55,10 @@ same-length : tie.Need-same-length Inv-loop μ-loop
 same-length c = end-length ((c .before .before .before .before .before .loop) .inv) ((c .before .before .before .before .loop-test) .left) _ ((c .before .before .finish2) .ensures .1)
 
 returns : tie.Need-returns Inv-loop μ-loop
-returns c =
-    (end-state ((c .before .before .before .before .before .loop) .inv) ((c .before .before .before .before .loop-test) .left) ∙ ap (λ (s : IndexState). stateBehind s (kindsFrom ((c .before .before .before .before .before .before .before .before .args) .n) 0 ((c .before .before .before .before .before .before .before .before .args) .events .now))) (sym ((c .before .before .before .before .before .before .before .before .pre) .0)),
-    walking-end ((c .before .before .before .before .before .loop) .inv) ((c .before .before .before .before .loop-test) .left) _ ((c .before .before .finish2) .ensures .1))
+returns c = (
+  end-state ((c .before .before .before .before .before .loop) .inv) ((c .before .before .before .before .loop-test) .left) ∙ ap (λ (s : IndexState). stateBehind s (kindsFrom ((c .before .before .before .before .before .before .before .before .args) .n) 0 ((c .before .before .before .before .before .before .before .before .args) .events .now))) (sym ((c .before .before .before .before .before .before .before .before .pre) .fresh)),
+  walking-end ((c .before .before .before .before .before .loop) .inv) ((c .before .before .before .before .loop-test) .left) _ ((c .before .before .finish2) .ensures .1),
+)
 
 pub walked-spec : {M : Type 1} → statement M
 walked-spec =
