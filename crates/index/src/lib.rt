@@ -11,7 +11,7 @@ use crate::counted::count_headers;
 use crate::entry::ENTRY_SIZE;
 use crate::refusals::NO_ROOM_FOR_INDEX;
 use crate::refusals::NOT_QUIET;
-use crate::state::IndexState;
+use crate::state::begin;
 use crate::walked::walk;
 use quiet::run::is_quiet;
 use rules::answer::Answer;
@@ -52,14 +52,7 @@ fn write_index(events: &[u32], n: usize, index: &mut [u8])
     requires { ⌜ Walkable fresh (now events) n (now index) ⌝ }
     ensures { λ _. ⌜ now (index .exit) ≡ indexBytes (headersIn n (now (events .entry))) ++ drop (entrySize * length (headersIn n (now (events .entry)))) (now (index .entry)) ⌝ }
 {
-    let mut state = IndexState {
-        at: 0,
-        found: false,
-        counting: false,
-        place: 0,
-        parts: 0,
-        array: false,
-    };
+    let mut state = begin();
     walk(&mut state, events, n, index);
 }
 
