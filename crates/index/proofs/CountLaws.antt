@@ -32,3 +32,16 @@ count-start n buffer = let m : n - 0 ≡ n = omega arith in rw m
 pub one-small : (b : Bool) → oneIf b ≤ 1
 one-small true = omega arith
 one-small false = omega arith
+
+pub kinds-length : (n i : ℕ) (buffer : List ℕ) → length (kindsFrom n i buffer) ≡ n
+kinds-length zero i buffer = refl
+kinds-length (suc n) i buffer = ap suc (kinds-length n (suc i) buffer)
+
+few-from : (n : ℕ) (kinds : List ℕ) → length (headersFrom n kinds) ≤ length kinds
+few-from n [] = omega arith
+few-from n (kind ∷ kinds) = omega (arith, count-by (opensHeader kind) n kind kinds refl, one-small (opensHeader kind), few-from (suc n) kinds)
+
+-- there are no more headers than events
+pub headers-few : (n : ℕ) (buffer : List ℕ) → length (headersIn n buffer) ≤ n
+unfolding headersIn
+headers-few n buffer = omega (arith, few-from 0 (kindsFrom n 0 buffer), kinds-length n 0 buffer)

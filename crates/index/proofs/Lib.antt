@@ -1,2 +1,6 @@
 pub mod StateLaws
 pub mod CountLaws
+pub mod PlacedLaws
+pub mod WalkLaws
+pub mod IndexLaws
+pub mod ReadLaws

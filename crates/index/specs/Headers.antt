@@ -67,6 +67,15 @@ abbrev pub mark : Bool → ℕ
 mark true = 1
 mark false = 0
 
+-- the length of an entry in bytes
+abbrev pub entrySize : ℕ
+entrySize = 17
+
 -- an entry: its length in bytes, the kind of entry, place, key parts, the array mark, events
 abbrev pub entryBytes : Header → List ℕ
-entryBytes h = fourBytes 17 ++ twoBytes 1 ++ twoBytes (h .place) ++ fourBytes (h .parts) ++ mark (h .array) ∷ fourBytes (h .events)
+entryBytes h = fourBytes entrySize ++ twoBytes 1 ++ twoBytes (h .place) ++ fourBytes (h .parts) ++ mark (h .array) ∷ fourBytes (h .events)
+
+-- the entries of these headers, one after the other
+unfoldable pub indexBytes : List Header → List ℕ
+indexBytes [] = []
+indexBytes (h ∷ hs) = entryBytes h ++ indexBytes hs

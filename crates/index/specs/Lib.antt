@@ -1,2 +1,6 @@
 pub mod Headers
 pub mod States
+pub mod Refusals
+pub mod Placing
+pub mod Outcome
+pub mod Reading

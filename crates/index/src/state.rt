@@ -1,7 +1,7 @@
 // The index builder: what is known of the header that the walk over the events is in. It is lent to the walk and altered there by `note`.
 ghost use mathlib.Core.Path.{_≡_};
 ghost use Rattle.index.specs.Headers.{opensHeader, closing};
-ghost use Rattle.index.specs.States.{more, countingAfter, partsAfter, stateAfter};
+ghost use Rattle.index.specs.States.{fresh, more, countingAfter, partsAfter, stateAfter};
 
 // The number of the event that comes next; whether a header was met, and then: whether its key is still open, the place of its open event,
 // how many key parts it has so far, and whether it is an array table.
@@ -12,6 +12,20 @@ pub struct IndexState {
     pub place: usize,
     pub parts: usize,
     pub array: bool,
+}
+
+// Before the first event.
+pub fn begin() -> IndexState
+    ensures { λ r. ⌜ r ≡ fresh ⌝ }
+{
+    IndexState {
+        at: 0,
+        found: false,
+        counting: false,
+        place: 0,
+        parts: 0,
+        array: false,
+    }
 }
 
 // One more. A count stops at the largest number.
@@ -68,7 +82,7 @@ fn parts_after(counting: bool, kind: u32, parts: usize) -> usize
 }
 
 // The state behind an event of the kind.
-fn stepped(state: IndexState, kind: u32) -> IndexState
+pub fn stepped(state: IndexState, kind: u32) -> IndexState
     ensures { λ r. ⌜ r ≡ stateAfter state kind ⌝ }
 {
     let at = state.at;
