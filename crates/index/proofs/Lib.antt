@@ -4,3 +4,4 @@ pub mod PlacedLaws
 pub mod WalkLaws
 pub mod IndexLaws
 pub mod ReadLaws
+pub mod AgainLaws

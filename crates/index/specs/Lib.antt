@@ -4,3 +4,4 @@ pub mod Refusals
 pub mod Placing
 pub mod Outcome
 pub mod Reading
+pub mod Reads

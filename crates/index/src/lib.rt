@@ -5,6 +5,7 @@ pub mod entry;
 pub mod reading;
 pub mod refusals;
 pub mod state;
+pub mod theorems;
 pub mod walked;
 
 use crate::counted::count_headers;

@@ -1,4 +1,4 @@
-// The index builder: what is known of the header that the walk over the events is in. It is lent to the walk and altered there by `note`.
+// The index builder: what is known of the header that the walk over the events is in. It is lent to the walk and altered there.
 ghost use mathlib.Core.Path.{_≡_};
 ghost use Rattle.index.specs.Headers.{opensHeader, closing};
 ghost use Rattle.index.specs.States.{fresh, more, countingAfter, partsAfter, stateAfter};
@@ -106,11 +106,4 @@ pub fn stepped(state: IndexState, kind: u32) -> IndexState
         parts: parts_after(counting, kind, state.parts),
         array,
     }
-}
-
-// The lent state is altered: an event of the kind was met.
-pub fn note(state: &mut IndexState, kind: u32)
-    ensures { λ _. ⌜ now (state .exit) ≡ stateAfter (now (state .entry)) kind ⌝ }
-{
-    *state = stepped(*state, kind);
 }
