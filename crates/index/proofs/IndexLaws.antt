@@ -1,6 +1,7 @@
 -- Each way out of `index`. Proved; nothing here needs to be believed.
 use mathlib.Core.Path.{_≡_, refl, ap, sym, subst, _∙_}
 use mathlib.Core.Bool.{Bool, true, false, cond}
+use mathlib.Core.Logic.{_↔_}
 use mathlib.Core.List.{List, _++_}
 use Prim.Native.Nat.{ℕ, _*_, _<_, _≤_}
 use lib.ListN.{length, drop}
@@ -10,7 +11,7 @@ use Rattle.rules.specs.declared.answer.Answer.{Answer}
 use Rattle.index.specs.declared.Indexed.{Indexed}
 use Rattle.index.specs.Headers.{headersIn, indexBytes, entrySize}
 use Rattle.index.specs.Refusals.{notQuiet, noRoomForIndex}
-use Rattle.index.specs.Outcome.{IndexOutcome, indexOutcome}
+use Rattle.index.specs.Outcome.{IndexOutcome, indexOutcome, IndexDetermined}
 
 abbrev left : Indexed → List ℕ → IndexOutcome
 left r index = record { answer = r; buffer = index }
@@ -35,3 +36,13 @@ module _ (answer : Answer) (events index : List ℕ) (quiet : Bool) (headers : �
       (ap (λ (r′ : Indexed). left r′ out) e
       ∙ ap (λ (n : ℕ). left (record { refusal = 0; headers = n; bytes = entrySize * n }) out) counted
       ∙ ap (λ (l : List ℕ). left (record { refusal = 0; headers = length (headersIn (answer .events) events); bytes = entrySize * length (headersIn (answer .events) events) }) l) o)
+
+-- two tests that are true exactly when the same holds are equal
+decided : {P : Type 0} (x y : Bool) → (x ≡ true) ↔ P → (y ≡ true) ↔ P → x ≡ y
+decided true y p q = sym (q .1 (p .0 refl))
+decided false true p q = p .1 (q .0 refl)
+decided false false p q = refl
+
+pub determined : (answer : Answer) (events index : List ℕ) → IndexDetermined answer events index
+determined answer events index x y p q =
+    p .same ∙ ap (λ (quiet : Bool). indexOutcome quiet answer events index) (decided (p .quiet) (q .quiet) (p .tells) (q .tells)) ∙ sym (q .same)

@@ -48,3 +48,7 @@ pub record Indexes (answer : Answer) (events index after : List ℕ) (r : Indexe
   pub quiet : Bool
   pub tells : (quiet ≡ true) ↔ Indexable answer events
   pub same : _≡_ {A = IndexOutcome} (record { answer = r; buffer = after }) (indexOutcome quiet answer events index)
+
+-- two that meet the contract for the same input are equal
+abbrev pub IndexDetermined : Answer → List ℕ → List ℕ → Type 0
+IndexDetermined answer events index = (x y : IndexOutcome) → Indexes answer events index (x .buffer) (x .answer) → Indexes answer events index (y .buffer) (y .answer) → x ≡ y
