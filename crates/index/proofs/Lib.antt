@@ -5,3 +5,4 @@ pub mod WalkLaws
 pub mod IndexLaws
 pub mod ReadLaws
 pub mod AgainLaws
+pub mod RunLaws
