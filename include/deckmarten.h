@@ -23,6 +23,7 @@ enum deckmarten_size {
     DECKMARTEN_SIZE_RECORD = 6, /* bytes of a token record: length, 4 bytes, then kind, 2 bytes, both least first */
     DECKMARTEN_SIZE_EVENT = 4,  /* words of an event: kind, encoding, start, end */
     DECKMARTEN_SIZE_ERROR = 6,  /* words of an error: message, expected, context start and end, unexpected start and end */
+    DECKMARTEN_SIZE_ENTRY = 17, /* bytes of an index entry: length 4, kind 2, place 2, key parts 4, array mark 1, events 4, all least first */
 };
 
 /* Records that are enough for a text of so many bytes, and the bytes of so many records. */
@@ -31,6 +32,8 @@ enum deckmarten_size {
 /* Words that are enough for the events and the errors of so many records. */
 #define DECKMARTEN_EVENT_WORDS(records) ((size_t)DECKMARTEN_SIZE_EVENT * 3 * (records))
 #define DECKMARTEN_ERROR_WORDS(records) ((size_t)DECKMARTEN_SIZE_ERROR * (2 * (size_t)(records) + 1))
+/* Bytes of the index of so many headers. */
+#define DECKMARTEN_INDEX_BYTES(headers) ((size_t)DECKMARTEN_SIZE_ENTRY * (headers))
 
 /* Kinds of tokens. A token has at least one byte, but for Eof, which has none. */
 enum deckmarten_kind {
@@ -147,10 +150,19 @@ enum deckmarten_refusal {
     DECKMARTEN_REFUSAL_TEXT_TOO_LONG = 9,  /* a text of more than 16,777,216 bytes; place: 16,777,216 */
     DECKMARTEN_REFUSAL_NOT_UTF8 = 10,      /* a text that is not UTF-8; place: the first byte that cannot be, from 0 */
     DECKMARTEN_REFUSAL_TOKENS = 11,        /* the tokens do not fit; place: 0 */
+    DECKMARTEN_REFUSAL_NOT_QUIET = 12,     /* the run is not quiet, or the buffer does not hold its events; no place */
+    DECKMARTEN_REFUSAL_INDEX = 13,         /* the index does not fit; no place */
+};
+
+/* What is at a position in the bytes of an index. */
+enum deckmarten_found {
+    DECKMARTEN_FOUND_NONE = 0,     /* the position is the end of the bytes */
+    DECKMARTEN_FOUND_HEADER = 1,   /* an entry, of a header */
+    DECKMARTEN_FOUND_NO_ENTRY = 2, /* bytes that are no entry, or a position beyond the bytes */
 };
 
 /* What every function below owes and is owed. Any text, records, base and room may be given: what is wrong with them is a refusal in
- * the answer. Lengths of texts and records are in bytes, those of the events and the errors in words. Memory that is written overlaps
+ * the answer. Lengths of texts, records and indexes are in bytes, those of the events and the errors in words. Memory that is written overlaps
  * nothing else, and no pointer may be null, even where its length is 0. It is proved that the functions end and read and write nothing
  * else. They keep nothing, and may be called by several threads at once. */
 
@@ -192,7 +204,7 @@ struct deckmarten_text_answer {
 struct deckmarten_text_answer deckmarten_parse_text(const uint8_t *text, size_t bytes, uint8_t *records, size_t record_bytes,
                                                     uint32_t *events, size_t event_words, uint32_t *errors, size_t error_words);
 
-/* The same run as deckmarten_is_quiet takes it. */
+/* The same run as deckmarten_is_quiet and deckmarten_index take it. */
 static inline struct deckmarten_answer deckmarten_run_of_text(struct deckmarten_text_answer answer) {
     struct deckmarten_answer run = {answer.refusal, answer.place, answer.events, answer.errors};
     return run;
@@ -235,6 +247,35 @@ struct deckmarten_answer deckmarten_parse_tokens(const struct deckmarten_token *
 /* Was the run with this answer, which left its events in this buffer, quiet: not refused, no error, and no event of empty span? A run
  * whose buffers were too small is refused, so it is not quiet. */
 bool deckmarten_is_quiet(struct deckmarten_answer answer, const uint32_t *events, size_t event_words);
+
+/* What comes of an index: the refusal (0, NOT_QUIET or INDEX); how many headers the events have, 0 at NOT_QUIET; and the bytes that were
+ * written, or at INDEX would be needed: DECKMARTEN_INDEX_BYTES of the headers. */
+struct deckmarten_indexed {
+    uint32_t refusal;
+    size_t headers;
+    size_t bytes;
+};
+
+/* Writes the index of a quiet run, which left its events in this buffer: an entry for each header, in order. What it has is worked out from
+ * the events alone. A refusal writes nothing, so a call with no room says how many bytes are needed. Of a text's run the answer is that of
+ * deckmarten_run_of_text. */
+struct deckmarten_indexed deckmarten_index(struct deckmarten_answer answer, const uint32_t *events, size_t event_words, uint8_t *index,
+                                           size_t index_bytes);
+
+/* What is at a position in an index: one of enum deckmarten_found; and of a header whether it is an array table (1, else 0), the number of
+ * its open event, from 0, of its key parts, and of the events from that one up to the next header or the end; and where the next entry
+ * starts. All but `found` is 0 if it is no header. */
+struct deckmarten_header {
+    uint32_t found;
+    uint32_t array;
+    size_t place;
+    size_t parts;
+    size_t events;
+    size_t next;
+};
+
+/* Reads the entry that starts at this byte of an index. The first starts at 0. Any bytes and any position may be given. */
+struct deckmarten_header deckmarten_header_at(const uint8_t *index, size_t index_bytes, size_t at);
 
 /* Has the list one Eof, as its last token, and no two Whitespace tokens in a row? A text's records are so. Of such a list quiet means
  * that it fits. */

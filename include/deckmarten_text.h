@@ -113,6 +113,8 @@ static inline const char *deckmarten_refusal_text(uint32_t number) {
         [DECKMARTEN_REFUSAL_TEXT_TOO_LONG] = "a text of more than 16,777,216 bytes",
         [DECKMARTEN_REFUSAL_NOT_UTF8] = "a text that is not UTF-8",
         [DECKMARTEN_REFUSAL_TOKENS] = "the tokens do not fit",
+        [DECKMARTEN_REFUSAL_NOT_QUIET] = "the run is not quiet",
+        [DECKMARTEN_REFUSAL_INDEX] = "the index does not fit",
     };
     return DECKMARTEN_TEXT(texts, number);
 }

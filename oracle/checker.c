@@ -1,9 +1,10 @@
 /* The checker of ./differ: reads frames from its input (src/frame.rs says what they are), calls the library on each list and text, and
  * compares the answer and every word of the buffers with what the oracle gave: document.rs and lexer/mod.rs compiled unchanged over
- * stand-ins for the files that are not here. This file has the lists; checker_texts.h has the texts, and whether a list fits. Some
- * lists go to the document entry a second time, as token structs. Stops at the first difference and prints it. Ends with 0 if nothing
+ * stand-ins for the files that are not here. This file has the lists; checker_texts.h has the texts, and whether a list fits;
+ * checker_index.h has the index of headers. Some lists go to the document entry a second time, as token structs. Stops at the first difference and prints it. Ends with 0 if nothing
  * differs, 1 if something does, 2 if the frames are not whole. */
 #include "checker.h"
+#include "checker_index.h"
 #include "checker_texts.h"
 
 /* One list in so many is compared as structs too, and each long one: the call clears 393,216 bytes first, which takes an emulator
@@ -96,8 +97,8 @@ static void show_note(void) {
 static int finish(void) {
     uint64_t low = word(), sent = low | (uint64_t)word() << 32;
     if (sent != cases) broken("another number of cases was sent");
-    printf("same %" PRIu64 " %" PRIu64 " %" PRIu64 " %" PRIu64 " %u %u %u", cases, as_structs, texts, verdicts, seen_kinds, seen_events,
-           seen_messages);
+    printf("same %" PRIu64 " %" PRIu64 " %" PRIu64 " %" PRIu64 " %" PRIu64 " %" PRIu64 " %u %u %u", cases, as_structs, texts, verdicts,
+           indexes, entries_read, seen_kinds, seen_events, seen_messages);
     for (int i = 0; i < REFUSALS; i++) printf(" %" PRIu64, refused[i]);
     printf("\n");
     return 0;
@@ -111,6 +112,8 @@ int main(void) {
         case 2: show_note(); break;
         case 3: texts++, cases += check_text(); break;
         case 4: check_fits(), verdicts++, cases++; break;
+        case 5: cases += check_index(); break;
+        case 6: check_found(), cases++; break;
         default: broken("a frame of no known sort");
         }
     }

@@ -6,6 +6,8 @@ use std::io::Write;
 use crate::batch::Case;
 use crate::frame;
 use crate::grammar;
+use crate::headers;
+use crate::headers::Found;
 use crate::judged_compared;
 use crate::lexer::Token;
 use crate::lexer::TokenKind;
@@ -13,6 +15,7 @@ use crate::records;
 use crate::texts;
 use crate::texts::Rooms;
 use crate::texts::Text;
+use crate::Answer;
 use crate::Entry;
 use crate::Judged;
 
@@ -34,16 +37,22 @@ pub enum Wrong {
     Fits,
     /// The same of a text.
     TextFits,
+    /// A header of two key parts has one event less.
+    Index,
+    /// What is read from the entry of an array table says that it is none.
+    Entries,
 }
 
 /// All of them, with their names.
-pub const WRONGS: [(&str, Wrong); 6] = [
+pub const WRONGS: [(&str, Wrong); 8] = [
     ("reports", Wrong::Reports),
     ("records", Wrong::Records),
     ("places", Wrong::Places),
     ("untouched", Wrong::Untouched),
     ("fits", Wrong::Fits),
     ("text_fits", Wrong::TextFits),
+    ("index", Wrong::Index),
+    ("entries", Wrong::Entries),
 ];
 
 /// What is to be written, and how many cases there were.
@@ -166,6 +175,49 @@ impl<W: Write> Feed<W> {
             self.added(1)?;
         }
         Ok(())
+    }
+
+    /// Adds the index of a run with this answer and these event words, in the rooms that
+    /// its bytes give.
+    pub fn put_index<R>(
+        &mut self,
+        answer: &Answer,
+        words: &[u32],
+        rooms: impl FnOnce(usize) -> R,
+    ) -> Result<(), String>
+    where
+        R: IntoIterator<Item = usize>,
+    {
+        let kinds = headers::quiet_kinds(answer, words);
+        let mut found = kinds.map(|kinds| headers::headers(&kinds));
+        let bytes = headers::ENTRY * found.as_ref().map_or(0, Vec::len);
+        if self.wrong == Some(Wrong::Index) {
+            let spoiled = found
+                .iter_mut()
+                .flatten()
+                .filter(|header| header.parts == 2);
+            spoiled.for_each(|header| header.events -= 1);
+        }
+        let in_room = |room| (room, headers::indexed(found.as_deref(), room));
+        let rooms: Vec<_> = rooms(bytes).into_iter().map(in_room).collect();
+        frame::push_index(
+            &mut self.out,
+            answer,
+            words,
+            found.as_deref().unwrap_or_default(),
+            &rooms,
+        );
+        self.added(rooms.len() as u64)
+    }
+
+    /// Adds what is at a position in the bytes of an index.
+    pub fn put_found(&mut self, bytes: &[u8], at: usize) -> Result<(), String> {
+        let mut found = headers::found(bytes, at);
+        if let (Some(Wrong::Entries), Found::Header(header)) = (self.wrong, &mut found) {
+            header.array = false;
+        }
+        frame::push_found(&mut self.out, bytes, at, &found);
+        self.added(1)
     }
 
     /// Counts cases that were added, and writes if enough was gathered.

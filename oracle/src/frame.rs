@@ -16,9 +16,20 @@
 //! 4, whether a list fits: base, number of bytes, words of room for events; the
 //! verdict (fits, refusal, place); whether the list is regular (2 where that is not
 //! asked), and whether a run with this room and none for errors is quiet; then the
-//! bytes, filled up likewise.
+//! bytes, filled up likewise;
+//! 5, an index: refusal of the run; place, events and errors of the run, two words each,
+//! the lower first; words of the event buffer, number of headers, number of rooms; then
+//! the event words, and for each header place, parts, mark and events, and their entries,
+//! filled up likewise; then for each room its bytes and the answer (refusal, headers,
+//! bytes);
+//! 6, a position in an index: number of bytes; the position, two words; what is there
+//! (found, place, parts, mark, events); then the bytes, filled up likewise.
 
 use crate::batch::Case;
+use crate::headers;
+use crate::headers::Found;
+use crate::headers::Header;
+use crate::headers::Indexed;
 use crate::texts::Lexed;
 use crate::texts::Rooms;
 use crate::texts::Text;
@@ -134,6 +145,60 @@ pub fn push_fits(out: &mut Vec<u8>, case: &Case, verdict: &Verdict, regular: usi
     push_bytes(out, &case.bytes);
 }
 
+/// Appends the index of a run with this answer and these event words, in these rooms, each
+/// with what is answered in it.
+pub fn push_index(
+    out: &mut Vec<u8>,
+    answer: &Answer,
+    words: &[u32],
+    headers: &[Header],
+    rooms: &[(usize, Indexed)],
+) {
+    push(out, 5);
+    push(out, answer.refusal as usize);
+    for count in [answer.place, answer.events, answer.errors] {
+        push_large(out, count);
+    }
+    for count in [words.len(), headers.len(), rooms.len()] {
+        push(out, count);
+    }
+    words.iter().for_each(|word| push(out, *word as usize));
+    headers.iter().for_each(|header| push_header(out, header));
+    push_bytes(out, &headers::entries(headers));
+    for (room, indexed) in rooms {
+        push(out, *room);
+        push(out, indexed.refusal as usize);
+        push(out, indexed.headers);
+        push(out, indexed.bytes);
+    }
+}
+
+fn push_header(out: &mut Vec<u8>, header: &Header) {
+    push(out, header.place);
+    push(out, header.parts);
+    push(out, usize::from(header.array));
+    push(out, header.events);
+}
+
+/// Appends what is at a position in the bytes of an index.
+pub fn push_found(out: &mut Vec<u8>, bytes: &[u8], at: usize, found: &Found) {
+    push(out, 6);
+    push(out, bytes.len());
+    push_large(out, at);
+    match found {
+        Found::Header(header) => {
+            push(out, 1);
+            push_header(out, header);
+        }
+        Found::None => out.resize(out.len() + 20, 0),
+        Found::NoEntry => {
+            push(out, 2);
+            out.resize(out.len() + 16, 0);
+        }
+    }
+    push_bytes(out, bytes);
+}
+
 /// Appends a note.
 pub fn push_note(out: &mut Vec<u8>, text: &str) {
     push(out, 2);
@@ -150,6 +215,11 @@ pub fn push_end(out: &mut Vec<u8>, cases: u64) {
 fn push(out: &mut Vec<u8>, word: usize) {
     let word = u32::try_from(word).expect("a word of 32 bits");
     out.extend_from_slice(&word.to_le_bytes());
+}
+
+/// Two words, the lower first.
+fn push_large(out: &mut Vec<u8>, number: usize) {
+    out.extend_from_slice(&(number as u64).to_le_bytes());
 }
 
 fn push_bytes(out: &mut Vec<u8>, bytes: &[u8]) {

@@ -18,6 +18,7 @@ pub mod feeding;
 pub mod frame;
 pub mod generate;
 pub mod grammar;
+pub mod headers;
 // the original has a constant that only other files of its crate use
 #[allow(dead_code)]
 pub mod lexer;

@@ -1,7 +1,7 @@
 //! The driver of ./bench: makes a token list and has both parsers walk it, the library as the archive that rt writes and document.rs
 //! compiled unchanged over stand-ins for the files that are not here. Both get the same tokens, and buffers of the same size. With
 //! texts both go from bytes to events, the Rust by `from_utf8`, lexer/mod.rs and document.rs. A text is made by one run and read from its
-//! file by another, so that little but what is measured is counted.
+//! file by another, so that little but what is measured is counted. With tables one is found, by the index and by looking through all events.
 
 use std::io::Write as _;
 use std::process::ExitCode;
@@ -11,12 +11,13 @@ use std::time::Instant;
 mod cases;
 mod library;
 mod original;
+mod tables;
 mod texts;
 
 use oracle::lexer::Token;
 
 const USAGE: &str =
-    "usage: speed walk|check|time CASE SIZE | make CASE SIZE > FILE | text|alone|time-text FILE";
+    "usage: speed walk|check|time CASE SIZE | make CASE SIZE > FILE | text|alone|time-text FILE | find FILE PATH";
 
 /// How long each side is repeated where times are taken.
 const WHILE: Duration = Duration::from_millis(500);
@@ -35,6 +36,7 @@ fn main() -> ExitCode {
 fn run(words: &[String]) -> Result<(), String> {
     let (mode, case, size) = match words {
         [mode, file] => return on_text(mode, file),
+        [mode, file, path] if mode == "find" => return tables::find(&read(file)?, path),
         [mode, case, size] => (mode, case, size),
         _ => return Err(USAGE.to_string()),
     };
@@ -79,9 +81,13 @@ pub struct TextBuffers {
     pub words: Buffers,
 }
 
+fn read(file: &str) -> Result<Vec<u8>, String> {
+    std::fs::read(file).map_err(|error| format!("{file}: {error}"))
+}
+
 /// Both sides on the text in a file.
 fn on_text(mode: &str, file: &str) -> Result<(), String> {
-    let bytes = std::fs::read(file).map_err(|error| format!("{file}: {error}"))?;
+    let bytes = read(file)?;
     let most = bytes.len() + 1;
     let mut buffers = TextBuffers {
         records: vec![0; 6 * most],

@@ -27,6 +27,15 @@ pub fn text(case: &str, size: usize) -> Option<Vec<u8>> {
         "scripts" => {
             "# Größe, Höhe, Füße: ärgerlich für müde Prüfer 🦫🌙📦 über Öfen\n".repeat(size)
         }
+        // jobs, and a table behind them
+        "jobs-last" => cases::jobs(size, 0) + "[last]\n",
+        // tables, each with a line, and one behind them
+        "tables" => {
+            (0..size)
+                .map(|number| format!("[jobs.n{number}]\nledger = {number}\n"))
+                .collect::<String>()
+                + "[last]\n"
+        }
         // scalars
         "scalars" => cases::scalars(size),
         // pairs of bytes, or bytes

@@ -1,10 +1,10 @@
 //! What a run answers.
 
-use std::ops::Deref;
+use std::ops::{Deref, Range};
 
 use crate::foreign::{self, RawAnswer, RawTextAnswer};
 use crate::limits::{ERROR_SIZE, EVENT_SIZE, RECORD_SIZE};
-use crate::{Event, ParseError, Refusal, Stored};
+use crate::{Event, Header, Index, Indexed, ParseError, Refusal, Stored};
 
 /// What a run answers, with the buffers that hold its events and errors.
 #[derive(Clone, Copy, Debug)]
@@ -53,6 +53,39 @@ impl<'b> Answer<'b> {
     /// The errors, or the first of them if they do not all fit.
     pub fn errors(&self) -> Stored<'b, ParseError> {
         Stored::new(self.errors, ERROR_SIZE, ParseError::read)
+    }
+
+    /// The events of a table: those from its header's open event up to the next header or the end. None that the buffer does not hold.
+    pub fn events_of(&self, header: &Header) -> Stored<'b, Event> {
+        let held = self.events.len() / EVENT_SIZE;
+        let Range { start, end } = header.events();
+        let words = EVENT_SIZE * start.min(held)..EVENT_SIZE * end.min(held);
+        Stored::new(&self.events[words], EVENT_SIZE, Event::read)
+    }
+
+    /// The index of a quiet run: its table headers, in order. [`Refusal::NotQuiet`] if the run is not quiet.
+    ///
+    /// ```
+    /// use deckmarten::{Refusal, Room};
+    ///
+    /// let text = "[jobs.main]\nledger = 'main.db'\n[[jobs.main.copies]]\nhost = 'b'\n";
+    /// let mut room = Room::new();
+    /// let answer = room.parse_text(text.as_bytes());
+    /// let index = answer.index()?;
+    /// let headers: Vec<_> = index.headers().map(|header| (header.key_parts(), header.is_array_table(), header.events())).collect();
+    /// assert_eq!(headers, [(2, false, 0..12), (3, true, 12..26)]);
+    ///
+    /// // an unclosed header: nothing is listed that could be taken for a table
+    /// assert_eq!(room.parse_text(b"[jobs.main").index().unwrap_err(), Refusal::NotQuiet);
+    /// # Ok::<(), Refusal>(())
+    /// ```
+    pub fn index(&self) -> Result<Index<'b>, Refusal> {
+        Index::of(self.raw, self.events)
+    }
+
+    /// Writes the index of a quiet run to a lent buffer. A refusal, [`Refusal::NotQuiet`] or [`Refusal::Index`], leaves it untouched.
+    pub fn index_into(&self, index: &mut [u8]) -> Indexed {
+        Indexed::new(foreign::index(self.raw, self.events, index))
     }
 
     /// Whether the run was quiet: not refused, no error, and no event of empty span. The library answers it, by a function that is proved.

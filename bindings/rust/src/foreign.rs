@@ -49,6 +49,27 @@ pub(crate) struct RawVerdict {
     pub(crate) place: usize,
 }
 
+/// `struct deckmarten_indexed`.
+#[derive(Clone, Copy, Debug)]
+#[repr(C)]
+pub(crate) struct RawIndexed {
+    pub(crate) refusal: u32,
+    pub(crate) headers: usize,
+    pub(crate) bytes: usize,
+}
+
+/// `struct deckmarten_header`.
+#[derive(Clone, Copy, Debug)]
+#[repr(C)]
+pub(crate) struct RawHeader {
+    pub(crate) found: u32,
+    pub(crate) array: u32,
+    pub(crate) place: usize,
+    pub(crate) parts: usize,
+    pub(crate) events: usize,
+    pub(crate) next: usize,
+}
+
 /// Declares entries as include/deckmarten.h does, each with what its list is made of: a slice is a pointer and a length.
 macro_rules! entries {
     ($($name:ident $item:ty,)+) => {
@@ -80,6 +101,8 @@ extern "C" {
     fn deckmarten_fits(records: *const u8, bytes: usize, base: u32, events: *mut u32, event_words: usize) -> RawVerdict;
     fn deckmarten_is_quiet(answer: RawAnswer, events: *const u32, event_words: usize) -> bool;
     fn deckmarten_is_regular(records: *const u8, bytes: usize, base: u32) -> bool;
+    fn deckmarten_index(answer: RawAnswer, events: *const u32, event_words: usize, index: *mut u8, index_bytes: usize) -> RawIndexed;
+    fn deckmarten_header_at(index: *const u8, index_bytes: usize, at: usize) -> RawHeader;
 }
 
 /// A function of the library over a list.
@@ -144,4 +167,14 @@ pub(crate) fn is_quiet(answer: RawAnswer, events: &[u32]) -> bool {
 pub(crate) fn is_regular(records: &[u8]) -> bool {
     // SAFETY: see above. Where the first token starts does not matter here.
     unsafe { deckmarten_is_regular(records.as_ptr(), records.len(), 0) }
+}
+
+pub(crate) fn index(answer: RawAnswer, events: &[u32], index: &mut [u8]) -> RawIndexed {
+    // SAFETY: see above
+    unsafe { deckmarten_index(answer, events.as_ptr(), events.len(), index.as_mut_ptr(), index.len()) }
+}
+
+pub(crate) fn header_at(index: &[u8], at: usize) -> RawHeader {
+    // SAFETY: see above
+    unsafe { deckmarten_header_at(index.as_ptr(), index.len(), at) }
 }

@@ -18,6 +18,8 @@
 //! assert_eq!(&text[comment.span.range()], "# two");
 //! ```
 //!
+//! A program that looks for one table of many makes an [`Index`] of a quiet run, by [`Answer::index`].
+//!
 //! Who has tokens already gives them as [`Records`], which [`fits`], [`Room::parse`] and the entries take.
 #![deny(unsafe_code, missing_docs)]
 
@@ -28,6 +30,7 @@ mod event;
 mod expected;
 mod fits;
 mod foreign;
+mod index;
 pub mod limits;
 mod message;
 mod numbered;
@@ -44,6 +47,7 @@ pub use error::ParseError;
 pub use event::{Encoding, Event, EventKind};
 pub use expected::Expected;
 pub use fits::{fits, is_regular, text_fits, Verdict};
+pub use index::{headers, Header, Headers, Index, Indexed};
 pub use message::Message;
 pub use refusal::{Refusal, Refused};
 pub use room::Room;

@@ -13,6 +13,8 @@ pub const RECORD_SIZE: usize = 6;
 pub const EVENT_SIZE: usize = 4;
 /// Words of an error.
 pub const ERROR_SIZE: usize = 6;
+/// Bytes of an index entry.
+pub const ENTRY_SIZE: usize = 17;
 
 /// Records that are enough for a text of so many bytes: it is proved that there are at most so many, the Eof included.
 pub const fn enough_records(text_bytes: usize) -> usize {

@@ -6,7 +6,8 @@ use crate::numbered::numbered;
 
 numbered! {
     /// Why a text or a list was not read to its end, or not stored whole. The place is the number of a record, from 0, where nothing else is
-    /// said. `PartialRecord` to `Bytes` leave the events and the errors untouched, `TextTooLong` to `Tokens` all three buffers.
+    /// said. `PartialRecord` to `Bytes` leave the events and the errors untouched, `TextTooLong` to `Tokens` all three buffers,
+    /// `NotQuiet` and `Index` the index.
     Refusal {
         /// The place is the number of whole records.
         PartialRecord = 1 => "the byte length is no multiple of 6",
@@ -30,13 +31,17 @@ numbered! {
         NotUtf8 = 10 => "a text that is not UTF-8",
         /// The place is 0.
         Tokens = 11 => "the tokens do not fit",
+        /// Of an index; there is no place.
+        NotQuiet = 12 => "the run is not quiet",
+        /// Of an index; there is no place.
+        Index = 13 => "the index does not fit",
     }
 }
 
 impl Refusal {
     /// The refusal of an answer; none if its number is 0.
     pub(crate) fn answered(number: u32) -> Option<Refusal> {
-        (number != 0).then(|| Refusal::from_number(number).expect("a refusal is one of 1 to 11"))
+        (number != 0).then(|| Refusal::from_number(number).expect("a refusal is one of 1 to 13"))
     }
 }
 

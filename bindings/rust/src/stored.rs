@@ -24,6 +24,11 @@ impl<T> Iterator for Stored<'_, T> {
         self.entries.next().map(self.read)
     }
 
+    /// In one step, and so is `skip`.
+    fn nth(&mut self, n: usize) -> Option<T> {
+        self.entries.nth(n).map(self.read)
+    }
+
     fn size_hint(&self) -> (usize, Option<usize>) {
         self.entries.size_hint()
     }

@@ -132,7 +132,7 @@ fn numbers_go_both_ways() {
             }
         )+};
     }
-    both_ways!(TokenKind 16, EventKind 17, Encoding 4, Message 29, Expected 14, Refusal 11);
+    both_ways!(TokenKind 16, EventKind 17, Encoding 4, Message 29, Expected 14, Refusal 13);
     assert_eq!(Refusal::Depth.to_string(), "a 65th array or inline table would be open");
     assert_eq!(format!("{:>12}|{}", TokenKind::Dot, EventKind::Scalar), "         `.`|value");
 }

@@ -1,3 +1,4 @@
 pub mod ExportLaws
 pub mod VerdictExports
 pub mod TextExportLaws
+pub mod IndexExports

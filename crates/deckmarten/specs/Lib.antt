@@ -2,3 +2,4 @@ pub mod Exported
 pub mod Determined
 pub mod ExportedVerdicts
 pub mod ExportedTexts
+pub mod ExportedIndexes

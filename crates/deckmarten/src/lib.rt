@@ -1,6 +1,7 @@
 // The four entries, and the document entry over token structs, for programs in C and Rust. A slice passes as a pointer and a length, a struct
 // as a C structure.
 pub mod answer;
+pub mod indexes;
 pub mod text;
 pub mod theorems;
 pub mod verdicts;

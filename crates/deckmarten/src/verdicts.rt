@@ -24,7 +24,7 @@ pub struct ExportedVerdict {
 }
 
 // The answer that a C structure holds.
-fn taken(e: ExportedAnswer) -> Answer
+pub fn taken(e: ExportedAnswer) -> Answer
     ensures { λ r. ⌜ r ≡ plain e ⌝ }
 {
     Answer {

@@ -9,9 +9,14 @@
 //!                                than by itself; UTF-8; the files of FOLDER; the limits
 //!     feed --random-texts COUNT SEED FOLDER
 //!                                COUNT random texts, some of them pieces of the files
+//!     feed --index COUNT SEED FOLDER
+//!                                the index of headers: job files, the files of FOLDER, the
+//!                                limits, and COUNT random runs, quiet and not, with right
+//!                                and wrong answers; and entries, whole and damaged
 //!     feed --cases < cases       cases, a line each: those of batch mode, and
-//!                                `text RECORDBYTES EVENTWORDS ERRORWORDS x:HEX` and
-//!                                `fits BASE EVENTWORDS x:HEX`
+//!                                `text RECORDBYTES EVENTWORDS ERRORWORDS x:HEX`,
+//!                                `fits BASE EVENTWORDS x:HEX`, `header AT x:HEX` and
+//!                                `index REFUSAL PLACE EVENTS ERRORS INDEXBYTES x:HEX`
 //!
 //! `--part K/N` behind these takes only the K-th of N parts of the texts. `--wrong WHAT` at
 //! the end asks for something else than the oracle gives, to show that the comparison
@@ -29,8 +34,10 @@ use oracle::feeding::Wrong;
 use oracle::feeding::WRONGS;
 use oracle::texts::Rooms;
 use oracle::walk;
+use oracle::Answer;
 use oracle::Entry;
 
+mod index;
 mod lists;
 mod rooms;
 mod texts;
@@ -40,7 +47,7 @@ type Feed = feeding::Feed<Stdout>;
 /// Lists or texts from one note to the next.
 const NOTED: u64 = 250_000;
 const USAGE: &str = "usage: feed --all LENGTH | --random COUNT SEED | --fits LENGTH | --texts MORE FOLDER | \
---random-texts COUNT SEED FOLDER | --cases, then perhaps --part K/N, then perhaps --wrong WHAT";
+--random-texts COUNT SEED FOLDER | --index COUNT SEED FOLDER | --cases, then perhaps --part K/N, then perhaps --wrong WHAT";
 
 fn main() -> ExitCode {
     let words: Vec<String> = std::env::args().skip(1).collect();
@@ -72,6 +79,9 @@ fn run(words: &[&str]) -> Result<(), String> {
         ["--random-texts", count, seed, folder] => {
             texts::random(&mut feed, number(count)?, number(seed)?, folder, part)?;
         }
+        ["--index", count, seed, folder] => {
+            index::all(&mut feed, number(count)?, number(seed)?, folder)?;
+        }
         ["--cases"] => {
             for line in std::io::stdin().lock().lines() {
                 put_line(&mut feed, &line.map_err(|e| e.to_string())?)?;
@@ -84,7 +94,9 @@ fn run(words: &[&str]) -> Result<(), String> {
 
 fn wrong(what: &str) -> Result<Wrong, String> {
     let found = WRONGS.iter().find(|known| known.0 == what);
-    found.map(|known| known.1).ok_or(format!("nothing wrong is called {what:?}"))
+    found
+        .map(|known| known.1)
+        .ok_or(format!("nothing wrong is called {what:?}"))
 }
 
 /// Adds the case in a line.
@@ -103,6 +115,20 @@ fn put_line(feed: &mut Feed, line: &str) -> Result<(), String> {
             let bytes = batch::bytes(rest.iter().copied())?;
             let (base, events) = (number(base)?, number(events)?);
             feed.put_fits(Case::at(Entry::Document, base, bytes), |_| [events])
+        }
+        ["header", at, rest @ ..] => {
+            feed.put_found(&batch::bytes(rest.iter().copied())?, number(at)?)
+        }
+        ["index", refusal, place, events, errors, room, rest @ ..] => {
+            let answer = Answer {
+                refusal: number(refusal)?,
+                place: number(place)?,
+                events: number(events)?,
+                errors: number(errors)?,
+            };
+            let bytes = batch::bytes(rest.iter().copied())?;
+            let room = number(room)?;
+            feed.put_index(&answer, &index::words(&bytes), |_| [room])
         }
         _ => feed.put(batch::parse(line)?),
     }

@@ -207,7 +207,7 @@ pub fn random(
 }
 
 /// The TOML files of a folder and of those in it, by name.
-fn files(folder: &str) -> Result<Vec<Vec<u8>>, String> {
+pub fn files(folder: &str) -> Result<Vec<Vec<u8>>, String> {
     let mut found: Vec<PathBuf> = Vec::new();
     let mut folders = vec![PathBuf::from(folder)];
     while let Some(folder) = folders.pop() {

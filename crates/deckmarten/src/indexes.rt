@@ -1,0 +1,108 @@
+// The index of headers for programs in C and Rust: written from a quiet run's events, and read again.
+use crate::answer::ExportedAnswer;
+use crate::verdicts::taken;
+use index::Indexed;
+use index::index as index_of;
+use index::reading::HeaderAt;
+use index::reading::header_at;
+ghost use mathlib.Core.Path.{_≡_};
+ghost use Rattle.index.specs.Headers.{mark};
+ghost use Rattle.index.specs.Reading.{headerAt};
+ghost use Rattle.deckmarten.specs.Exported.{plain};
+ghost use Rattle.deckmarten.specs.ExportedIndexes.{plainIndexed, ExportsIndex, headerStructure};
+
+// The refusal's number (0 if none), how many headers there are, and how many bytes their index has, or would have.
+#[repr(C)]
+pub struct ExportedIndexed {
+    pub refusal: u32,
+    pub headers: usize,
+    pub bytes: usize,
+}
+
+// 0 at the end of the bytes, 1 at an entry, 2 where there is none; of an entry 1 for an array table, the place of the open event, key parts,
+// events, and the position behind it, else zeros.
+#[repr(C)]
+pub struct ExportedHeader {
+    pub found: u32,
+    pub array: u32,
+    pub place: usize,
+    pub parts: usize,
+    pub events: usize,
+    pub next: usize,
+}
+
+// The C structure of the index's answer.
+fn exported_indexed(r: Indexed) -> ExportedIndexed
+    ensures { λ e. ⌜ plainIndexed e ≡ r ⌝ }
+{
+    ExportedIndexed {
+        refusal: r.refusal,
+        headers: r.headers,
+        bytes: r.bytes,
+    }
+}
+
+fn array_mark(array: bool) -> u32
+    ensures { λ r. ⌜ r ≡ mark array ⌝ }
+{
+    if array {
+        return 1;
+    }
+    0
+}
+
+// One without an entry.
+fn no_header(found: u32) -> ExportedHeader
+    ensures { λ e. ⌜ e ≡ record { found = found; array = 0; place = 0; parts = 0; events = 0; next = 0 } ⌝ }
+{
+    ExportedHeader {
+        found,
+        array: 0,
+        place: 0,
+        parts: 0,
+        events: 0,
+        next: 0,
+    }
+}
+
+// The C structure of what stands at a position.
+fn exported_header(h: HeaderAt) -> ExportedHeader
+    ensures { λ e. ⌜ e ≡ headerStructure h ⌝ }
+{
+    match h {
+        HeaderAt::Entry(place, parts, array, events, next) => {
+            let marked = array_mark(array);
+            ExportedHeader {
+                found: 1,
+                array: marked,
+                place,
+                parts,
+                events,
+                next,
+            }
+        }
+        HeaderAt::End => no_header(0),
+        HeaderAt::NoEntry => no_header(2),
+    }
+}
+
+#[no_mangle]
+pub extern "C" fn deckmarten_index(
+    answer: ExportedAnswer,
+    events: &[u32],
+    index: &mut [u8],
+) -> ExportedIndexed
+    ensures { λ r. ⌜ ExportsIndex (plain answer) (now (events .entry)) (now (index .entry)) (now (index .exit)) r ⌝ }
+{
+    let a = taken(answer);
+    let r = index_of(a, events, index);
+    exported_indexed(r)
+}
+
+#[no_mangle]
+pub extern "C" fn deckmarten_header_at(index: &[u8], at: usize) -> ExportedHeader
+    ensures { λ r. ⌜ r ≡ headerStructure (headerAt (now (index .entry)) at) ⌝ }
+{
+    let h = header_at(index, at);
+    exported_header(h)
+}
