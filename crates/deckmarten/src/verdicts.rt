@@ -10,7 +10,7 @@ ghost use mathlib.Core.Path.{_≡_};
 ghost use mathlib.Core.Bool.{true};
 ghost use mathlib.Core.Logic.{_↔_};
 ghost use Rattle.token.specs.Tokens.{allTokens};
-ghost use Rattle.rules.specs.Premises.{Regular};
+ghost use Rattle.fitting.specs.Premises.{Regular};
 ghost use Rattle.quiet.specs.Runs.{QuietAnswer};
 ghost use Rattle.deckmarten.specs.Exported.{plain};
 ghost use Rattle.deckmarten.specs.ExportedVerdicts.{plainVerdict, ExportsVerdict, ExportedVerdictsDetermined};

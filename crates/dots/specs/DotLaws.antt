@@ -3,7 +3,6 @@ use mathlib.Core.Path.{_≡_, ap, _∙_}
 use mathlib.Core.Bool.{true, false≢true}
 use mathlib.Core.List.{List, [], _∷_}
 use Prim.Native.Nat.{ℕ, suc, _+_, _≤_}
-use native.Mathlib.Nat.{le-refl, le-step}
 use native.Mathlib.Omega.{arith}
 use lib.ListN.{length}
 use Rattle.token.specs.Tokens.{Tok, tok, tokensAt, Good, Took, Back, startsWith}
@@ -15,58 +14,21 @@ use Rattle.token.specs.declared.kind.Kind.{Kind}
 use Rattle.token.specs.declared.kind.Kind.the-variants.{Dot}
 use Rattle.token.specs.declared.cursor.Token.{Token}
 use Rattle.token.specs.declared.cursor.Cursor.{Cursor}
-use Rattle.rules.specs.declared.keys.InKey.{InKey}
-use Rattle.rules.specs.Out.{Out, done}
-use Rattle.rules.specs.Keys.{inKey, optDotKeys, dotKeys, afterDot, afterPartStep, dotStep, partStep}
+use Rattle.rules.specs.Costs.{not-back}
+use Rattle.rules.specs.KeyCosts.{after-dot-costs}
+use Rattle.rules.specs.Keys.{optDotKeys, afterDot}
 use Rattle.output.specs.declared.emitting.Walk.{Walk}
 use Rattle.output.specs.Pour.{Bufs}
 use Rattle.output.specs.Walks.{Goes}
 use Rattle.output.specs.WalkLaws.{goes-as, goes-rest}
 use Rattle.dots.specs.KeyWalks.{ReadDot}
 
--- no key rule steps back
-pub Short : Out → ℕ → Type 0
-Short o n = length (o .rest) ≤ n
-
-after-part-short : (x : InKey) (a b n : ℕ) (here dots part : Out) → Short here (suc n) → Short dots n → Short part n → Short (afterPartStep x a b here dots part) (suc n)
-unfolding Short
-after-part-short (InKey.Part e) a b n here dots part h i j = h
-after-part-short InKey.Whitespace a b n here dots part h i j = le-step i
-after-part-short InKey.Dot a b n here dots part h i j = le-step j
-after-part-short InKey.Other a b n here dots part h i j = h
-
-dot-short : (x : InKey) (a b n : ℕ) (here part : Out) → Short here (suc n) → Short part n → Short (dotStep x a b here part) (suc n)
-unfolding Short
-dot-short (InKey.Part e) a b n here part h j = h
-dot-short InKey.Whitespace a b n here part h j = h
-dot-short InKey.Dot a b n here part h j = le-step j
-dot-short InKey.Other a b n here part h j = h
-
-part-short : (x : InKey) (a b n : ℕ) (here part on : Out) → Short here (suc n) → Short part n → Short on n → Short (partStep x a b here part on) (suc n)
-unfolding Short
-part-short (InKey.Part e) a b n here part on h i j = le-step j
-part-short InKey.Whitespace a b n here part on h i j = le-step i
-part-short InKey.Dot a b n here part on h i j = le-step i
-part-short InKey.Other a b n here part on h i j = h
-
-unfoldable mutual
-  unfolding Short
-
-  keys-short : (ts : List Tok) → Short (optDotKeys ts) (length ts)
-  keys-short [] = le-refl 0
-  keys-short (tok k a b ∷ ts) = after-part-short (inKey k) a b (length ts) (done (tok k a b ∷ ts)) (dotKeys ts) (afterDot ts b) (le-refl _) (dots-short ts) (scan-short ts b)
-
-  dots-short : (ts : List Tok) → Short (dotKeys ts) (length ts)
-  dots-short [] = le-refl 0
-  dots-short (tok k a b ∷ ts) = dot-short (inKey k) a b (length ts) (done (tok k a b ∷ ts)) (afterDot ts b) (le-refl _) (scan-short ts b)
-
-  scan-short : (ts : List Tok) (d : ℕ) → Short (afterDot ts d) (length ts)
-  scan-short [] d = le-refl 0
-  scan-short (tok k a b ∷ ts) d = part-short (inKey k) a b (length ts) (done (tok k a b ∷ ts)) (afterDot ts d) (optDotKeys ts) (le-refl _) (scan-short ts d) (keys-short ts)
+-- what follows a dot gives no tokens back
+scan-short : (ts : List Tok) (d : ℕ) → length (afterDot ts d .rest) ≤ length ts
+scan-short ts d = not-back 1 (omega arith) (after-dot-costs ts d)
 
 -- a key that begins with the dot that was read goes past it
 pub past-dot : (s : List ℕ) (c : Cursor) (t : Token) (d e : Cursor) {o : Bufs} {a b : List ℕ} {w : Walk} → Good s c → Took s c t d → Back s d e → t .kind ≡ Dot → Goes s (optDotKeys (tokensAt s e)) e o a b w → c .at + 1 ≤ w .cur .at
-unfolding Short
 past-dot s c t d e {w = w} g k h i x =
     let z : tokensAt s e ≡ tok Dot (t .start) (t .end) ∷ tokensAt s d = ap (tokensAt s) (back-past s c t d e g k h) ∙ k .seen ∙ ap (λ (j : Kind). tok j (t .start) (t .end) ∷ tokensAt s d) i in
     let l : length (tokensAt s (w .cur)) ≤ length (tokensAt s d) = rw (goes-rest x, z) (scan-short (tokensAt s d) (t .end)) in
@@ -89,7 +51,6 @@ dot-goes {s} {t} {c} {d} r h x =
 
 -- where the list starts with a dot, the key goes past it
 pub beyond-dot : (s : List ℕ) (c : Cursor) {o : Bufs} {a b : List ℕ} {w : Walk} → Good s c → Goes s (optDotKeys (tokensAt s c)) c o a b w → startsWith Dot (tokensAt s c) ≡ true → c .at + 1 ≤ w .cur .at
-unfolding Short
 beyond-dot s c {w = w} g x e =
     let l : length (tokensAt s (w .cur)) + 1 ≤ length (tokensAt s c) = rw (goes-rest x) (dotted (tokensAt s c) e) in
     omega (arith, l, left-length s (w .cur), left-length s c, x .good .low, g .low)

@@ -18,7 +18,7 @@ use Rattle.rules.specs.Out.{Item, Out}
 use Rattle.rules.specs.Entries.{Entry, parse}
 use Rattle.rules.specs.Words.{eventsOf, errorsOf}
 use Rattle.rules.specs.Answer.{eventSize, errorSize, Outcome, roomRefusal, refusalBy, placeBy, walked, outcomeBy, outcome}
-use Rattle.rules.specs.Bounds.{counts-fit}
+use Rattle.bounds.specs.Bounds.{counts-fit}
 use Rattle.output.specs.declared.emitting.Counts.{Counts}
 use Rattle.output.specs.declared.emitting.Walk.{Walk}
 use Rattle.output.specs.Pour.{Bufs, bufs, refused, pour}

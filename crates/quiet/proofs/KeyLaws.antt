@@ -10,7 +10,7 @@ use lib.Dec.{eqb, ltb}
 use lib.ListN.{length, getD, List·getD-eq-default}
 use borrow.Author.Tests.{ltb-true, ltb-false}
 use Rattle.rules.specs.Answer.{eventSize}
-use Rattle.rules.specs.Quiet.{multiLineKey}
+use Rattle.fitting.specs.Quiet.{multiLineKey}
 use Rattle.quiet.specs.Runs.{NoneMultiLine}
 use Rattle.quiet.proofs.Decided.{decided-no}
 

@@ -18,9 +18,9 @@ use Rattle.rules.specs.Limits.{maxDepth}
 use Rattle.rules.specs.declared.answer.Answer.{Answer}
 use Rattle.rules.specs.Entries.{documentEntry}
 use Rattle.rules.specs.Answer.{eventSize, Outcome, outcomeBy, outcome}
-use Rattle.rules.specs.Quiet.{QuietRun, NoMultiLineKey}
-use Rattle.rules.specs.Grammar.{FitsWithin}
-use Rattle.rules.specs.Premises.{Regular, Ready, documentRun}
+use Rattle.fitting.specs.Quiet.{QuietRun, NoMultiLineKey}
+use Rattle.fitting.specs.Grammar.{FitsWithin}
+use Rattle.fitting.specs.Premises.{Regular, Ready, documentRun}
 use Rattle.grammar.specs.Answers.{Answers}
 use Rattle.quiet.specs.declared.verdict.Verdict.{Verdict}
 use Rattle.quiet.specs.Runs.{QuietAnswer, SingleLineAnswer}

@@ -14,8 +14,8 @@ use Rattle.token.specs.Check.{checked}
 use Rattle.rules.specs.Limits.{maxDepth}
 use Rattle.rules.specs.declared.answer.Answer.{Answer}
 use Rattle.rules.specs.Answer.{eventSize}
-use Rattle.rules.specs.Grammar.{FitsWithin}
-use Rattle.rules.specs.Premises.{Regular, documentRun}
+use Rattle.fitting.specs.Grammar.{FitsWithin}
+use Rattle.fitting.specs.Premises.{Regular, documentRun}
 use Rattle.quiet.specs.declared.verdict.Verdict.{Verdict}
 
 -- the records s, the first of which starts at base, pass the check, have one Eof, at the end, and no two Whitespace in a row, and fit the

@@ -3,14 +3,14 @@ use crate::keys::is_quiet_without_multi_line_key;
 use crate::verdict::Verdict;
 use crate::verdict::answered;
 use crate::verdict::is_unjudged;
+use fitting::theorems::fits_then_quiet;
+use fitting::theorems::quiet_exactly_when_fits_within;
 use grammar::entries::read_document;
-use rules::theorems::fits_then_quiet;
-use rules::theorems::quiet_exactly_when_fits_within;
 ghost use mathlib.Core.Path.{_≡_};
 ghost use Rattle.token.specs.declared.check.Checked.{Checked};
 ghost use Rattle.token.specs.Tokens.{allTokens};
 ghost use Rattle.token.specs.Check.{checked};
-ghost use Rattle.rules.specs.Premises.{Regular};
+ghost use Rattle.fitting.specs.Premises.{Regular};
 ghost use Rattle.quiet.specs.Verdicts.{Judges};
 
 // As `fits`, without the check and without asking whether the list is regular.

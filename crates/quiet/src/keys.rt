@@ -7,7 +7,7 @@ ghost use mathlib.Core.Logic.{_↔_};
 ghost use Prim.Native.Nat.{_*_, _≤_};
 ghost use lib.ListN.{length};
 ghost use Rattle.rules.specs.Answer.{eventSize};
-ghost use Rattle.rules.specs.Quiet.{multiLineKey};
+ghost use Rattle.fitting.specs.Quiet.{multiLineKey};
 ghost use Rattle.quiet.specs.Runs.{NoneMultiLine, QuietAnswer, SingleLineAnswer};
 
 // Whether an event of this kind and encoding, its first two words, is such a key: simple_key, encoding 3 or 4.

@@ -1,10 +1,10 @@
 // What the contracts amount to, each as the contract of a function that does nothing.
+use fitting::theorems::fits_then_quiet;
 use rules::answer::Answer;
-use rules::theorems::fits_then_quiet;
 ghost use Prim.Native.Nat.{ℕ};
 ghost use mathlib.Core.List.{List};
 ghost use Rattle.token.specs.Tokens.{allTokens};
-ghost use Rattle.rules.specs.Premises.{Regular};
+ghost use Rattle.fitting.specs.Premises.{Regular};
 ghost use Rattle.quiet.specs.declared.verdict.Verdict.{Verdict};
 ghost use Rattle.quiet.specs.Runs.{QuietAnswer, SingleLineAnswer};
 ghost use Rattle.quiet.specs.Verdicts.{DeterminedTest, DeterminedVerdict, Judges, Judged};
