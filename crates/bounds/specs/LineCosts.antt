@@ -1,4 +1,4 @@
--- The costs of skipping, of line ends, of keys and of scalars. Proved; nothing here needs to be believed.
+-- The costs of skipping and of line ends. Proved; nothing here needs to be believed.
 use mathlib.Core.List.{List, [], _∷_}
 use Prim.Native.Nat.{ℕ, zero, suc, _+_, _*_, _≤_}
 use native.Mathlib.Omega.{arith}

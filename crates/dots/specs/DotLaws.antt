@@ -24,14 +24,14 @@ use Rattle.output.specs.WalkLaws.{goes-as, goes-rest}
 use Rattle.dots.specs.KeyWalks.{ReadDot}
 
 -- what follows a dot gives no tokens back
-scan-short : (ts : List Tok) (d : ℕ) → length (afterDot ts d .rest) ≤ length ts
-scan-short ts d = not-back 1 (omega arith) (after-dot-costs ts d)
+after-dot-short : (ts : List Tok) (d : ℕ) → length (afterDot ts d .rest) ≤ length ts
+after-dot-short ts d = not-back 1 (omega arith) (after-dot-costs ts d)
 
 -- a key that begins with the dot that was read goes past it
 pub past-dot : (s : List ℕ) (c : Cursor) (t : Token) (d e : Cursor) {o : Bufs} {a b : List ℕ} {w : Walk} → Good s c → Took s c t d → Back s d e → t .kind ≡ Dot → Goes s (optDotKeys (tokensAt s e)) e o a b w → c .at + 1 ≤ w .cur .at
 past-dot s c t d e {w = w} g k h i x =
     let z : tokensAt s e ≡ tok Dot (t .start) (t .end) ∷ tokensAt s d = ap (tokensAt s) (back-past s c t d e g k h) ∙ k .seen ∙ ap (λ (j : Kind). tok j (t .start) (t .end) ∷ tokensAt s d) i in
-    let l : length (tokensAt s (w .cur)) ≤ length (tokensAt s d) = rw (goes-rest x, z) (scan-short (tokensAt s d) (t .end)) in
+    let l : length (tokensAt s (w .cur)) ≤ length (tokensAt s d) = rw (goes-rest x, z) (after-dot-short (tokensAt s d) (t .end)) in
     omega (arith, l, left-length s (w .cur), left-length s d, x .good .low, k .on, k .left, k .good .low)
 
 -- and gives what the rule says from the dot on
@@ -56,7 +56,7 @@ beyond-dot s c {w = w} g x e =
     omega (arith, l, left-length s (w .cur), left-length s c, x .good .low, g .low)
   where
     by-kind : (k : Kind) (a b : ℕ) (ts : List Tok) → k ≡ Dot → length (optDotKeys (tok k a b ∷ ts) .rest) + 1 ≤ suc (length ts)
-    by-kind k a b ts q = rw q (omega (arith, scan-short ts b))
+    by-kind k a b ts q = rw q (omega (arith, after-dot-short ts b))
 
     dotted : (ts : List Tok) → startsWith Dot ts ≡ true → length (optDotKeys ts .rest) + 1 ≤ length ts
     dotted [] q = absurd (false≢true q)

@@ -1,5 +1,5 @@
--- From an entry's outcome to quiet items and back: when a run is quiet, and that its events are known by the words that it left in its buffer. Nothing here
--- needs to be believed.
+-- From an entry's outcome to quiet items and back: when a run is quiet, and that its events are known by the words in its buffer.
+-- Nothing here needs to be believed.
 use mathlib.Core.Path.{_≡_, refl, ap, sym, subst, _∙_}
 use mathlib.Core.Bool.{Bool, true, false}
 use mathlib.Core.Logic.{_↔_}

@@ -1,5 +1,5 @@
--- From an entry's outcome to the rules' items and back: what a passed check leaves to be done, when a run is quiet, and which
--- events stand in the buffer. So a theorem about items can be said of the answer and the buffers.
+-- From an entry's outcome to the rules' items and back: what a passed check leaves to be done, what is counted, and which events and
+-- errors stand in the buffers. So a theorem about items can be said of the answer and the buffers. Nothing here needs to be believed.
 use mathlib.Core.Path.{_≡_, refl, ap}
 use mathlib.Core.List.{List, [], _∷_}
 use Prim.Native.Nat.{ℕ, _*_, _/_, _≤_}

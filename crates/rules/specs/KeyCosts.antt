@@ -1,4 +1,4 @@
--- The costs of keys and of scalars. Proved; nothing here needs to be believed.
+-- The costs of keys. Proved; nothing here needs to be believed.
 use mathlib.Core.List.{List, [], _∷_}
 use Prim.Native.Nat.{ℕ}
 use native.Mathlib.Omega.{arith}
