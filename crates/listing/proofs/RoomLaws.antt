@@ -17,7 +17,7 @@ use Rattle.rules.specs.Out.{Item, event, eventAfter, report, stop}
 use Rattle.rules.specs.Words.{eventNumber, eventsOf, errorsOf, Halt, ended, refusedLevel, haltOf}
 use Rattle.rules.specs.Entries.{Entry, parse}
 use Rattle.rules.specs.Answer.{Outcome, filled, refusalBy, walked, outcomeBy, outcome}
-use Rattle.grammar.specs.Answers.{Answers}
+use Rattle.entries.specs.Answers.{Answers}
 use Rattle.rules.proofs.BufferLaws.{word-in}
 use Rattle.rules.proofs.OutcomeLaws.{events-sized}
 use Rattle.listing.specs.Named.{Named, AllNamed}

@@ -21,7 +21,7 @@ use Rattle.rules.specs.Answer.{eventSize, Outcome, outcomeBy, outcome}
 use Rattle.fitting.specs.Quiet.{QuietRun, NoMultiLineKey}
 use Rattle.fitting.specs.Grammar.{FitsWithin}
 use Rattle.fitting.specs.Premises.{Regular, Ready, documentRun}
-use Rattle.grammar.specs.Answers.{Answers}
+use Rattle.entries.specs.Answers.{Answers}
 use Rattle.quiet.specs.declared.verdict.Verdict.{Verdict}
 use Rattle.quiet.specs.Runs.{QuietAnswer, SingleLineAnswer}
 use Rattle.quiet.specs.Verdicts.{Sound, Roomy, unjudged, shortOfRoom, refusalOf, placeOf, Judges, Judgement, DeterminedVerdict, Judged}

@@ -5,7 +5,7 @@ use crate::verdict::answered;
 use crate::verdict::is_unjudged;
 use fitting::theorems::fits_then_quiet;
 use fitting::theorems::quiet_exactly_when_fits_within;
-use grammar::entries::read_document;
+use entries::entries::read_document;
 ghost use mathlib.Core.Path.{_≡_};
 ghost use Rattle.token.specs.declared.check.Checked.{Checked};
 ghost use Rattle.token.specs.Tokens.{allTokens};

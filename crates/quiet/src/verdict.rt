@@ -3,7 +3,7 @@ use crate::keys::is_quiet_without_multi_line_key;
 use crate::regular::is_regular;
 use fitting::theorems::fits_then_quiet;
 use fitting::theorems::quiet_exactly_when_fits_within;
-use grammar::entries::parse_document;
+use entries::entries::parse_document;
 ghost use mathlib.Core.Path.{_≡_};
 ghost use Rattle.quiet.specs.Verdicts.{unjudged, Judges};
 

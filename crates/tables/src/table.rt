@@ -1,8 +1,8 @@
 // Tables and array tables.
-use dots::dots::opt_whitespace;
-use endings::line_end::ws_comment_newline;
-use lines::skipping::ignore_to_newline;
-use names::names::key;
+use key_dots::dots::opt_whitespace;
+use line_ends::line_end::ws_comment_newline;
+use skip_lines::skipping::ignore_to_newline;
+use keys::keys::key;
 use output::emitting::Counts;
 use output::emitting::Walk;
 use output::emitting::emit;

@@ -1,5 +1,5 @@
 // The joined entry: a text and three lent buffers in; the answer out, and the buffers filled.
-use grammar::entries::read_document;
+use entries::entries::read_document;
 use lex::lex;
 use text_rules::answer::TextAnswer;
 use token::check::MAX_RECORDS;

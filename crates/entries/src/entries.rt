@@ -1,0 +1,213 @@
+// The four entries: record bytes, a base and two lent buffers in; the answer out, and the buffers filled.
+use checks::check::check;
+use documents::document::document;
+use line_ends::eof::eof;
+use keys::keys::key;
+use keys::keys::simple_key;
+use nest::nest::NestWalk;
+use nest::nest::unstopped;
+use output::emitting::Counts;
+use output::message::INVALID_KEY;
+use rules::answer::Answer;
+use token::check::Checked;
+use token::cursor::Cursor;
+use values::value::value;
+ghost use mathlib.Core.Path.{_≡_};
+ghost use Rattle.token.specs.declared.check.Checked.{Checked};
+ghost use Rattle.token.specs.Check.{checked};
+ghost use Rattle.token.specs.Tokens.{Good};
+ghost use Rattle.rules.specs.Entries.{documentEntry, keyEntry, simpleKeyEntry, valueEntry};
+ghost use Rattle.entries.specs.Answers.{Answers, Closed, answerOf};
+
+// How many arrays and inline tables may be open within one another.
+pub const MAX_DEPTH: u32 = 64;
+
+// What is left behind the end, unless the walk was refused.
+fn closing(s: &[u8], v: NestWalk, events: &mut [u32], errors: &mut [u32]) -> NestWalk
+    requires { ⌜ Good (now s) (v .cur) ⌝ }
+    ensures { λ r. ⌜ Closed (now (s .entry)) v (now (events .entry)) (now (errors .entry)) (now (events .exit)) (now (errors .exit)) r ⌝ }
+{
+    let stopped = v.stopped;
+    if stopped {
+        return v;
+    }
+    let behind = v.cur;
+    let n = v.n;
+    let w = eof(s, behind, n, events, errors);
+    unstopped(w)
+}
+
+// An answer with its counts.
+fn counted(refusal: u32, place: usize, n: Counts) -> Answer
+    ensures { λ r. ⌜ r ≡ record { refusal = refusal; place = place; events = n .events; errors = n .errors } ⌝ }
+{
+    Answer {
+        refusal,
+        place,
+        events: n.events,
+        errors: n.errors,
+    }
+}
+
+// The answer of a walk: a level was refused at the record before the cursor; or the events or the errors do not fit; or all fits.
+fn answer_of(v: NestWalk, event_room: usize, error_room: usize) -> Answer
+    ensures { λ r. ⌜ r ≡ answerOf v «event_room» «error_room» ⌝ }
+{
+    let n = v.n;
+    let stopped = v.stopped;
+    if stopped {
+        let cur = v.cur;
+        let at = cur.at;
+        if at == 0 {
+            return counted(6, 0, n);
+        }
+        return counted(6, at - 1, n);
+    }
+    if event_room < n.events {
+        return counted(7, 0, n);
+    }
+    if error_room < n.errors {
+        return counted(8, 0, n);
+    }
+    counted(0, 0, n)
+}
+
+// The walk of a document whose records are known to pass the check: a caller that wrote them itself has shown it, and nothing is asked again.
+pub fn read_document(s: &[u8], base: u32, events: &mut [u32], errors: &mut [u32]) -> Answer
+    requires { ⌜ checked (now s) base ≡ Checked.Passed ⌝ }
+    ensures { λ r. ⌜ Answers documentEntry (now (s .entry)) base (now (events .entry)) (now (errors .entry)) (now (events .exit)) (now (errors .exit)) r ⌝ }
+{
+    let c = Cursor::new(base);
+    let w = document(
+        s,
+        c,
+        Counts {
+            events: 0,
+            errors: 0,
+        },
+        MAX_DEPTH,
+        events,
+        errors,
+    );
+    let v = closing(s, w, events, errors);
+    answer_of(v, events.len() / 4, errors.len() / 6)
+}
+
+pub fn parse_document(s: &[u8], base: u32, events: &mut [u32], errors: &mut [u32]) -> Answer
+    ensures { λ r. ⌜ Answers documentEntry (now (s .entry)) base (now (events .entry)) (now (errors .entry)) (now (events .exit)) (now (errors .exit)) r ⌝ }
+{
+    let checked = check(s, base);
+    match checked {
+        Checked::Refused(refusal, place) => Answer {
+            refusal,
+            place,
+            events: 0,
+            errors: 0,
+        },
+        Checked::Passed => read_document(s, base, events, errors),
+    }
+}
+
+pub fn parse_key(s: &[u8], base: u32, events: &mut [u32], errors: &mut [u32]) -> Answer
+    ensures { λ r. ⌜ Answers keyEntry (now (s .entry)) base (now (events .entry)) (now (errors .entry)) (now (events .exit)) (now (errors .exit)) r ⌝ }
+{
+    let checked = check(s, base);
+    match checked {
+        Checked::Refused(refusal, place) => Answer {
+            refusal,
+            place,
+            events: 0,
+            errors: 0,
+        },
+        Checked::Passed => {
+            let c = Cursor::new(base);
+            let w = key(
+                s,
+                c,
+                Counts {
+                    events: 0,
+                    errors: 0,
+                },
+                INVALID_KEY,
+                events,
+                errors,
+            );
+            let cur = w.cur;
+            let n = w.n;
+            let z = NestWalk {
+                cur,
+                n,
+                stopped: false,
+            };
+            let v = closing(s, z, events, errors);
+            answer_of(v, events.len() / 4, errors.len() / 6)
+        }
+    }
+}
+
+pub fn parse_simple_key(s: &[u8], base: u32, events: &mut [u32], errors: &mut [u32]) -> Answer
+    ensures { λ r. ⌜ Answers simpleKeyEntry (now (s .entry)) base (now (events .entry)) (now (errors .entry)) (now (events .exit)) (now (errors .exit)) r ⌝ }
+{
+    let checked = check(s, base);
+    match checked {
+        Checked::Refused(refusal, place) => Answer {
+            refusal,
+            place,
+            events: 0,
+            errors: 0,
+        },
+        Checked::Passed => {
+            let c = Cursor::new(base);
+            let w = simple_key(
+                s,
+                c,
+                Counts {
+                    events: 0,
+                    errors: 0,
+                },
+                INVALID_KEY,
+                events,
+                errors,
+            );
+            let cur = w.cur;
+            let n = w.n;
+            let z = NestWalk {
+                cur,
+                n,
+                stopped: false,
+            };
+            let v = closing(s, z, events, errors);
+            answer_of(v, events.len() / 4, errors.len() / 6)
+        }
+    }
+}
+
+pub fn parse_value(s: &[u8], base: u32, events: &mut [u32], errors: &mut [u32]) -> Answer
+    ensures { λ r. ⌜ Answers valueEntry (now (s .entry)) base (now (events .entry)) (now (errors .entry)) (now (events .exit)) (now (errors .exit)) r ⌝ }
+{
+    let checked = check(s, base);
+    match checked {
+        Checked::Refused(refusal, place) => Answer {
+            refusal,
+            place,
+            events: 0,
+            errors: 0,
+        },
+        Checked::Passed => {
+            let c = Cursor::new(base);
+            let w = value(
+                s,
+                c,
+                Counts {
+                    events: 0,
+                    errors: 0,
+                },
+                MAX_DEPTH,
+                events,
+                errors,
+            );
+            let v = closing(s, w, events, errors);
+            answer_of(v, events.len() / 4, errors.len() / 6)
+        }
+    }
+}
