@@ -10,7 +10,7 @@ use Rattle.token.specs.Tokens.{Tok, allTokens, tokensAt, At, Good}
 use Rattle.token.specs.Check.{checked}
 use Rattle.token.specs.CheckLaws.{checked-passes, passed-good}
 use Rattle.token.specs.CursorLaws.{at-start, left-length}
-use Rattle.token.specs.declared.check.Checked.{Checked}
+use Rattle.token.specs.declared.checked.Checked.{Checked}
 use Rattle.token.specs.declared.cursor.Cursor.{Cursor}
 use Rattle.rules.specs.declared.answer.Answer.{Answer}
 use Rattle.rules.specs.Out.{Out}

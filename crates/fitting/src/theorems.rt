@@ -4,7 +4,7 @@ ghost use mathlib.Core.Logic.{_↔_};
 ghost use mathlib.Core.List.{[]};
 ghost use Prim.Native.Nat.{_/_, _≤_};
 ghost use lib.ListN.{length};
-ghost use Rattle.token.specs.declared.check.Checked.{Checked};
+ghost use Rattle.token.specs.declared.checked.Checked.{Checked};
 ghost use Rattle.token.specs.Tokens.{allTokens};
 ghost use Rattle.token.specs.Check.{checked};
 ghost use Rattle.rules.specs.Answer.{eventSize};

@@ -16,7 +16,7 @@ use crate::state::begin;
 use crate::walked::walk;
 use quiet::run::is_quiet;
 use rules::answer::Answer;
-use token::check::MAX_RECORDS;
+use token::checked::MAX_RECORDS;
 ghost use mathlib.Core.Path.{_≡_};
 ghost use mathlib.Core.Bool.{true};
 ghost use mathlib.Core.Logic.{_↔_};

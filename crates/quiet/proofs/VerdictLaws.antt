@@ -8,7 +8,7 @@ use native.Mathlib.Omega.{arith}
 use lib.ListN.{length}
 use lib.Dec.{ltb}
 use borrow.Author.Tests.{ltb-false, lt-ltb, le-ltb}
-use Rattle.token.specs.declared.check.Checked.{Checked}
+use Rattle.token.specs.declared.checked.Checked.{Checked}
 use Rattle.token.specs.Records.{count}
 use Rattle.token.specs.Tokens.{Tok, allTokens}
 use Rattle.token.specs.Check.{checked}

@@ -7,7 +7,7 @@ use fitting::theorems::fits_then_quiet;
 use fitting::theorems::quiet_exactly_when_fits_within;
 use entries::entries::read_document;
 ghost use mathlib.Core.Path.{_≡_};
-ghost use Rattle.token.specs.declared.check.Checked.{Checked};
+ghost use Rattle.token.specs.declared.checked.Checked.{Checked};
 ghost use Rattle.token.specs.Tokens.{allTokens};
 ghost use Rattle.token.specs.Check.{checked};
 ghost use Rattle.fitting.specs.Premises.{Regular};

@@ -5,7 +5,7 @@ use mathlib.Core.List.{List, [], _∷_}
 use Prim.Native.Nat.{ℕ, _*_, _/_, _≤_}
 use native.Mathlib.Omega.{arith}
 use lib.ListN.{length, take}
-use Rattle.token.specs.declared.check.Checked.{Checked}
+use Rattle.token.specs.declared.checked.Checked.{Checked}
 use Rattle.token.specs.Tokens.{Tok, allTokens}
 use Rattle.token.specs.Check.{checked}
 use Rattle.rules.specs.Out.{Item, event, eventAfter, report, stop}

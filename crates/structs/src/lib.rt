@@ -3,7 +3,7 @@ pub mod theorems;
 
 use entries::entries::parse_document;
 use rules::answer::Answer;
-use token::check::MAX_RECORDS;
+use token::checked::MAX_RECORDS;
 use token::writing::put_record;
 ghost use mathlib.Core.Path.{_≡_};
 ghost use mathlib.Core.List.{_++_};

@@ -8,7 +8,7 @@ use native.Mathlib.Omega.{arith}
 use lib.ListN.{length, take}
 use lib.Dec.{eqb}
 use borrow.Author.Tests.{eq-eqb, ne-eqb}
-use Rattle.token.specs.declared.check.Checked.{Checked}
+use Rattle.token.specs.declared.checked.Checked.{Checked}
 use Rattle.token.specs.Limits.{maxRecords}
 use Rattle.token.specs.Tokens.{allTokens}
 use Rattle.token.specs.Check.{checked}

@@ -2,7 +2,7 @@
 use lex::lex;
 use quiet::judging::judge;
 use quiet::verdict::Verdict;
-use token::check::MAX_RECORDS;
+use token::checked::MAX_RECORDS;
 ghost use mathlib.Core.Path.{_≡_};
 ghost use mathlib.Core.Bool.{false};
 ghost use Rattle.texts.specs.TextVerdicts.{JudgesText};

@@ -12,7 +12,7 @@ use Rattle.rules.specs.InlineTable.{progress, refused, trailing, inlineTableTur
 use Rattle.output.specs.Pour.{bufs}
 use Rattle.output.specs.WalkLaws.{told, told-done, at-end, first-item, first-items, then-goes}
 use Rattle.array_parts.specs.Turning.{unclosedItems}
-use Rattle.inline_turns.proofs.TableLaws.{table-at, action-tells, table-as}
+use Rattle.inline_turns.proofs.InlineTableLaws.{table-at, action-tells, table-as}
 use borrow.Author.Needs.{needs}
 use Rattle.inline_turns.proofs.inline_table.inline_table_turn.Statement.{statement}
 use Rattle.inline_turns.proofs.inline_table.inline_table_turn.Tie as tie
