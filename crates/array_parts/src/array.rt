@@ -1,7 +1,6 @@
 // Arrays: one turn.
 use crate::turn::Next;
 use crate::turn::unclosed;
-use skip_lines::skipping::on_comment;
 use output::emitting::Counts;
 use output::emitting::Walk;
 use output::emitting::emit;
@@ -22,6 +21,7 @@ use rules::array::InArray;
 use rules::array::in_array;
 use rules::event::Event;
 use scalars::scalar::on_scalar;
+use skip_lines::skipping::on_comment;
 use token::cursor::Cursor;
 use token::cursor::Step;
 use token::cursor::Token;

@@ -1,9 +1,9 @@
 // The four entries: record bytes, a base and two lent buffers in; the answer out, and the buffers filled.
 use checks::check::check;
 use documents::document::document;
-use line_ends::eof::eof;
 use keys::keys::key;
 use keys::keys::simple_key;
+use line_ends::eof::eof;
 use nest::nest::NestWalk;
 use nest::nest::unstopped;
 use output::emitting::Counts;

@@ -1,5 +1,4 @@
 // What stands where a key, the head of a table or `=` should.
-use skip_lines::skipping::ignore_to_newline;
 use output::emitting::Counts;
 use output::emitting::Walk;
 use output::emitting::emit;
@@ -11,6 +10,7 @@ use output::expected::OPEN_SQUARE;
 use output::message::INVALID_KEY_VALUE_PAIR;
 use output::message::MISSING_TABLE_OPEN;
 use rules::event::Event;
+use skip_lines::skipping::ignore_to_newline;
 use token::cursor::Cursor;
 use token::cursor::Seen;
 use token::cursor::Token;

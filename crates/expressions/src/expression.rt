@@ -1,6 +1,7 @@
 // Expressions: a key, `=` and a value.
 // What is handed to a function that stays out of line lies in memory from then on, so copies are handed on, and the walk's own cursor and
 // counts stay in registers.
+use expression_strays::strays::no_equals;
 use key_dots::dots::dot_keys;
 use key_dots::dots::opt_whitespace;
 use line_ends::line_end::usual_line_end;
@@ -13,7 +14,6 @@ use output::message::KEY_WITH_NO_VALUE;
 use output::message::MISSING_VALUE_FOR_KEY;
 use rules::event::Encoding;
 use rules::event::Event;
-use expression_strays::strays::no_equals;
 use token::cursor::Cursor;
 use token::cursor::Step;
 use token::cursor::Token;

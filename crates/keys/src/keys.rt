@@ -2,7 +2,6 @@
 use key_dots::dots::KeyWalk;
 use key_dots::dots::nothing_left;
 use key_dots::dots::opt_dot_keys;
-use skip_lines::skipping::on_comment;
 use output::emitting::Counts;
 use output::emitting::Walk;
 use output::emitting::emit;
@@ -17,6 +16,7 @@ use rules::keys::InKey;
 use rules::keys::in_key;
 use rules::skipping::InLine;
 use rules::skipping::in_line;
+use skip_lines::skipping::on_comment;
 use token::cursor::Cursor;
 use token::cursor::Step;
 use token::cursor::Token;

@@ -1,6 +1,4 @@
 // The ends of lines.
-use skip_lines::skipping::ignore_to_newline;
-use skip_lines::skipping::on_comment;
 use output::emitting::Counts;
 use output::emitting::Walk;
 use output::emitting::emit;
@@ -10,6 +8,8 @@ use output::message::UNEXPECTED_KEY_OR_VALUE;
 use rules::event::Event;
 use rules::skipping::InLine;
 use rules::skipping::in_line;
+use skip_lines::skipping::ignore_to_newline;
+use skip_lines::skipping::on_comment;
 use token::cursor::Cursor;
 use token::cursor::Seen;
 use token::cursor::Step;

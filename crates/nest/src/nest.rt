@@ -3,11 +3,11 @@
 // registers.
 use crate::turns::array_turns;
 use array_parts::turn::Next;
+use inline_parts::actions::action_table;
 use inline_turns::inline_table::inline_table_turn;
 use output::emitting::Counts;
 use output::emitting::Walk;
 use output::emitting::emit;
-use inline_parts::actions::action_table;
 use rules::array::ArrayState;
 use rules::event::Event;
 use rules::inline_table::Progress;

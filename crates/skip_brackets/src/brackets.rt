@@ -1,5 +1,4 @@
 // Skipping to a closing bracket.
-use skip_lines::skipping::on_comment;
 use output::emitting::Counts;
 use output::emitting::Walk;
 use output::emitting::emit;
@@ -7,6 +6,7 @@ use rules::event::Event;
 use rules::skipping::Bracket;
 use rules::skipping::InClose;
 use rules::skipping::in_close;
+use skip_lines::skipping::on_comment;
 use token::cursor::Cursor;
 use token::cursor::Step;
 ghost use Rattle.token.specs.Tokens.{Good, tokensAt};
