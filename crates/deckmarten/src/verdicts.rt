@@ -2,10 +2,10 @@
 use crate::answer::ExportedAnswer;
 use quiet::regular::is_regular;
 use quiet::run::is_quiet;
-use quiet::theorems::verdicts_are_determined;
-use quiet::verdict::Verdict;
-use quiet::verdict::fits;
 use rules::answer::Answer;
+use verdicts::theorems::verdicts_are_determined;
+use verdicts::verdict::Verdict;
+use verdicts::verdict::fits;
 ghost use mathlib.Core.Path.{_≡_};
 ghost use mathlib.Core.Bool.{true};
 ghost use mathlib.Core.Logic.{_↔_};

@@ -13,7 +13,7 @@ use Rattle.rules.specs.Array.{Nest, arrayTurn}
 use Rattle.output.specs.Pour.{Bufs, bufs}
 use Rattle.output.specs.TurnLaws.{Turns, fewer-left}
 use Rattle.array_parts.specs.declared.turn.Next.{Next}
-use Rattle.array_parts.specs.declared.array.ArrayTurn.{ArrayTurn}
+use Rattle.array_turns.specs.declared.array.ArrayTurn.{ArrayTurn}
 use Rattle.array_parts.specs.Turning.{Further, Wants, Turned}
 use Rattle.nest.specs.Ran.{Enough, Ran}
 use Rattle.nest.proofs.NestLaws.{turned, turn-next}

@@ -13,7 +13,7 @@ use Rattle.rules.specs.Array.{Nest, arrayTurn}
 use Rattle.output.specs.Pour.{Bufs, bufs}
 use Rattle.output.specs.Walks.{run}
 use Rattle.array_parts.specs.declared.turn.Next.{Next}
-use Rattle.array_parts.specs.declared.array.ArrayTurn.{ArrayTurn}
+use Rattle.array_turns.specs.declared.array.ArrayTurn.{ArrayTurn}
 use Rattle.array_parts.specs.Turning.{goOn, Further, Wants}
 
 -- so many turns are enough for the tokens left, unless no turn follows

@@ -3,4 +3,3 @@ pub mod RunLaws
 pub mod MultiLineKeyLaws
 pub mod NumberLaws
 pub mod RegularLaws
-pub mod VerdictLaws

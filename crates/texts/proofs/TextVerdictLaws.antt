@@ -18,8 +18,8 @@ use Rattle.rules.specs.declared.answer.Answer.{Answer}
 use Rattle.rules.specs.Answer.{eventSize, Outcome}
 use Rattle.fitting.specs.Grammar.{FitsWithin}
 use Rattle.fitting.specs.Premises.{documentRun}
-use Rattle.quiet.specs.declared.verdict.Verdict.{Verdict}
-use Rattle.quiet.specs.Verdicts.{Sound, Roomy, Judges, Judged, refusalOf, placeOf}
+use Rattle.verdicts.specs.declared.verdict.Verdict.{Verdict}
+use Rattle.verdicts.specs.Verdicts.{Sound, Roomy, Judges, Judged, refusalOf, placeOf}
 use Rattle.lex.specs.declared.Lexed.{Lexed}
 use Rattle.scan.specs.Lexer.{tokensOf}
 use Rattle.lex.specs.Lexed.{LexOutcome, lexOutcome}
