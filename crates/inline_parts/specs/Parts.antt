@@ -5,11 +5,13 @@ use Rattle.token.specs.Tokens.{Tok}
 use Rattle.token.specs.declared.kind.Kind.{Kind}
 use Rattle.rules.specs.declared.event.Encoding.{Encoding}
 use Rattle.rules.specs.declared.inline_table.State.{State}
+use Rattle.rules.specs.declared.inline_table.Action.{Action}
+use Rattle.rules.specs.declared.inline_table.Action.the-variants as A
 use Rattle.rules.specs.Out.{Place, found, Item, report}
 use Rattle.rules.specs.Messages as message
 use Rattle.rules.specs.Expected as expected
 use Rattle.rules.specs.Receiver as receiver
-use Rattle.rules.specs.InlineTable.{lastComma, encodingAt}
+use Rattle.rules.specs.InlineTable.{actions, lastComma, encodingAt}
 
 -- the report of a trailing comma
 abbrev pub blamed : Place → ℕ → ℕ → List Tok → List Item
@@ -29,11 +31,37 @@ rowOf State.NeedsEquals = 1
 rowOf State.NeedsValue = 2
 rowOf State.NeedsComma = 3
 
--- the table of the numbers of the actions, a row a state and a column a kind of token
+-- the number of an action
+abbrev pub actionNumber : Action → ℕ
+actionNumber A.Whitespace = 0
+actionNumber A.Comment = 1
+actionNumber A.Newline = 2
+actionNumber A.Eof = 3
+actionNumber A.ValueSep = 4
+actionNumber A.ExtraComma = 5
+actionNumber A.EmptyKey = 6
+actionNumber A.KeyValSep = 7
+actionNumber A.ExtraAssignment = 8
+actionNumber A.KeylessArray = 9
+actionNumber A.KeylessTable = 10
+actionNumber A.UnassignedArray = 11
+actionNumber A.UnassignedTable = 12
+actionNumber A.UnassignedScalar = 13
+actionNumber A.Array = 14
+actionNumber A.Table = 15
+actionNumber A.Scalar = 16
+actionNumber A.Close = 17
+actionNumber A.InvalidElement = 18
+actionNumber A.ArrayWithoutOpen = 19
+actionNumber A.Key = 20
+actionNumber A.DotKey = 21
+actionNumber A.KeyWithoutComma = 22
+actionNumber A.DotKeyWithoutComma = 23
+
+abbrev pub numbers : List Action → List ℕ
+numbers [] = []
+numbers (x ∷ xs) = actionNumber x ∷ numbers xs
+
+-- the rule's table, by the numbers of its actions: a row a state and a column a kind of token
 unfoldable pub actionTable : List (List ℕ)
-actionTable =
-    (21 ∷ 6 ∷ 5 ∷ 9 ∷ 18 ∷ 10 ∷ 17 ∷ 0 ∷ 1 ∷ 2 ∷ 20 ∷ 20 ∷ 20 ∷ 20 ∷ 20 ∷ 3 ∷ [])
-    ∷ (13 ∷ 7 ∷ 5 ∷ 11 ∷ 18 ∷ 12 ∷ 17 ∷ 0 ∷ 1 ∷ 2 ∷ 13 ∷ 13 ∷ 13 ∷ 13 ∷ 13 ∷ 3 ∷ [])
-    ∷ (16 ∷ 8 ∷ 5 ∷ 14 ∷ 19 ∷ 15 ∷ 17 ∷ 0 ∷ 1 ∷ 2 ∷ 16 ∷ 16 ∷ 16 ∷ 16 ∷ 16 ∷ 3 ∷ [])
-    ∷ (23 ∷ 8 ∷ 4 ∷ 9 ∷ 18 ∷ 10 ∷ 17 ∷ 0 ∷ 1 ∷ 2 ∷ 22 ∷ 22 ∷ 22 ∷ 22 ∷ 22 ∷ 3 ∷ [])
-    ∷ []
+actionTable = numbers (actions State.NeedsKey) ∷ numbers (actions State.NeedsEquals) ∷ numbers (actions State.NeedsValue) ∷ numbers (actions State.NeedsComma) ∷ []
