@@ -1,9 +1,9 @@
 // The yes: whether a list of token records is good to act on.
 use entries::entries::parse_document;
-use quiet::keys::is_quiet_without_multi_line_key;
-use quiet::regular::is_regular;
 use fitting::theorems::fits_then_quiet;
 use fitting::theorems::quiet_exactly_when_fits_within;
+use quiet::keys::is_quiet_without_multi_line_key;
+use quiet::regular::is_regular;
 ghost use mathlib.Core.Path.{_≡_};
 ghost use Rattle.verdicts.specs.Verdicts.{unjudged, Judges};
 

@@ -1,7 +1,7 @@
 -- The contract says each part of the answer, and every word of the buffer.
 use Rattle.verdicts.proofs.VerdictLaws.{determined}
-use Rattle.quiet.proofs.theorems.verdicts_are_determined.Statement.{statement}
-use Rattle.quiet.proofs.theorems.verdicts_are_determined.Tie as tie
+use Rattle.verdicts.proofs.theorems.verdicts_are_determined.Statement.{statement}
+use Rattle.verdicts.proofs.theorems.verdicts_are_determined.Tie as tie
 
 returns : tie.Need-returns
 returns c = determined (c .args .records .now) (c .args .base) (c .args .events .now)

@@ -2,8 +2,8 @@
 -- Made by ./proofs from Proof.tmpl: change that.
 use Rattle.verdicts.proofs.VerdictLaws.{judges-decided}
 use borrow.Author.Needs.{needs}
-use Rattle.quiet.proofs.theorems.verdicts_judge.Statement.{statement}
-use Rattle.quiet.proofs.theorems.verdicts_judge.Tie as tie
+use Rattle.verdicts.proofs.theorems.verdicts_judge.Statement.{statement}
+use Rattle.verdicts.proofs.theorems.verdicts_judge.Tie as tie
 
 slice-aggregate-fits-then-quiet : tie.Need-slice-aggregate-fits-then-quiet
 slice-aggregate-fits-then-quiet c = search needs

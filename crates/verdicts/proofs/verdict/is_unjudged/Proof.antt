@@ -2,8 +2,8 @@
 -- Made by ./proofs from Proof.tmpl: change that.
 use mathlib.Core.Path.{sym}
 use borrow.Author.Tests.{lt-ltb, le-ltb}
-use Rattle.quiet.proofs.verdict.is_unjudged.Statement.{statement}
-use Rattle.quiet.proofs.verdict.is_unjudged.Tie as tie
+use Rattle.verdicts.proofs.verdict.is_unjudged.Statement.{statement}
+use Rattle.verdicts.proofs.verdict.is_unjudged.Tie as tie
 
 returns : tie.Need-returns
 returns c = simp (lt-ltb _ _ ((c .if1) .taken))
