@@ -22,12 +22,9 @@ use Rattle.bounds.specs.Bounds.{counts-fit}
 use Rattle.output.specs.declared.emitting.Counts.{Counts}
 use Rattle.output.specs.declared.emitting.Walk.{Walk}
 use Rattle.output.specs.Pour.{Bufs, bufs, refused, pour}
+use Rattle.entries.specs.Answers.{fresh}
 use Rattle.entries.proofs.PourLaws.{poured}
 use Rattle.output.specs.Walks.{End, run, Goes}
-
--- the counts of a walk that begins
-abbrev pub fresh : Counts
-fresh = record { events = 0; errors = 0 }
 
 -- the outcome that buffers stand for, where the walk began with the buffers evs and ers
 abbrev pub outcomeFrom : List Tok → List ℕ → List ℕ → Bufs → Outcome

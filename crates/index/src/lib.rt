@@ -16,6 +16,7 @@ use crate::state::begin;
 use crate::walked::walk;
 use quiet::run::is_quiet;
 use rules::answer::Answer;
+use rules::answer::EVENT_WORDS;
 use token::checked::MAX_RECORDS;
 ghost use mathlib.Core.Path.{_≡_};
 ghost use mathlib.Core.Bool.{true};
@@ -39,7 +40,7 @@ fn is_indexable(answer: Answer, events: &[u32]) -> bool
     ensures { λ r. ⌜ (r ≡ true) ↔ Indexable answer (now (events .entry)) ⌝ }
 {
     let n = answer.events;
-    if events.len() / 4 < n {
+    if events.len() / EVENT_WORDS < n {
         return false;
     }
     if MAX_RECORDS < n {

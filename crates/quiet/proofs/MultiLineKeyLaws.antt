@@ -43,9 +43,9 @@ no-encoding kind = by (eqb kind 5) refl
     by false e = rw e
 
 -- more events are counted than the buffer has whole
-module _ (events : List ℕ) (n : ℕ) (more : length events / 4 < n) where
+module _ (events : List ℕ) (n : ℕ) (more : length events / eventSize < n) where
   abbrev whole : ℕ
-  whole = length events / 4
+  whole = length events / eventSize
 
   beyond : (i : ℕ) → length events ≤ i * eventSize + 1 → multiLineAt events i ≡ false
   beyond i h = ap (multiLineKey (getD events (i * eventSize) 0)) (List·getD-eq-default events 0 {n = i * eventSize + 1} h) ∙ no-encoding (getD events (i * eventSize) 0)
@@ -64,5 +64,5 @@ module _ (events : List ℕ) (n : ℕ) (more : length events / 4 < n) where
   two-words-only last d = (λ t. whole-then-rest last (d .0 t), λ h. d .1 (λ i l. h i (omega (arith, l, more))))
 
   -- or not
-  pub none-beyond : {r : Bool} → length events ≤ whole * 4 + 1 → (r ≡ true) ↔ NoneMultiLine whole events → (r ≡ true) ↔ NoneMultiLine n events
+  pub none-beyond : {r : Bool} → length events ≤ whole * eventSize + 1 → (r ≡ true) ↔ NoneMultiLine whole events → (r ≡ true) ↔ NoneMultiLine n events
   none-beyond h d = two-words-only (beyond whole h) d

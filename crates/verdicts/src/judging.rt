@@ -6,6 +6,7 @@ use entries::entries::read_document;
 use fitting::theorems::fits_then_quiet;
 use fitting::theorems::quiet_exactly_when_fits_within;
 use quiet::keys::is_quiet_without_multi_line_key;
+use rules::answer::EVENT_WORDS;
 ghost use mathlib.Core.Path.{_≡_};
 ghost use Rattle.token.specs.declared.checked.Checked.{Checked};
 ghost use Rattle.token.specs.Tokens.{allTokens};
@@ -28,7 +29,7 @@ pub fn judge(records: &[u8], base: u32, events: &mut [u32]) -> Verdict
         let place = answer.place;
         return answered(false, refusal, place);
     }
-    if events.len() / 4 < records.len() / 6 {
+    if events.len() / EVENT_WORDS < records.len() / 6 {
         return answered(false, 7, 0);
     }
     let quiet = is_quiet_without_multi_line_key(answer, events);

@@ -4,6 +4,7 @@ use fitting::theorems::fits_then_quiet;
 use fitting::theorems::quiet_exactly_when_fits_within;
 use quiet::keys::is_quiet_without_multi_line_key;
 use quiet::regular::is_regular;
+use rules::answer::EVENT_WORDS;
 ghost use mathlib.Core.Path.{_≡_};
 ghost use Rattle.verdicts.specs.Verdicts.{unjudged, Judges};
 
@@ -48,7 +49,7 @@ pub fn fits(records: &[u8], base: u32, events: &mut [u32]) -> Verdict
         let place = answer.place;
         return answered(false, refusal, place);
     }
-    if events.len() / 4 < records.len() / 6 {
+    if events.len() / EVENT_WORDS < records.len() / 6 {
         return answered(false, 7, 0);
     }
     let regular = is_regular(records, base);

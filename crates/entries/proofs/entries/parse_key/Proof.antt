@@ -1,42 +1,35 @@
--- A list that the check refuses is not read; else the walk, what is left behind it, and the answer.
+-- A list that the check refuses is not read; else the walk from the start, and the end that all entries have.
 -- Made by ./proofs from Proof.tmpl: change that.
-use mathlib.Core.Path.{ap, sym, _∙_}
-use Prim.Native.Nat.{ℕ, _/_}
-use Rattle.rules.specs.Out.{_then_}
+use mathlib.Core.Path.{refl}
 use Rattle.rules.specs.Entries.{keyEntry}
-use Rattle.rules.specs.Skipping.{eof}
 use Rattle.rules.specs.Messages as message
 use Rattle.rules.specs.Keys.{key}
-use Rattle.nest.specs.NestedLaws.{nested-goes}
-use Rattle.entries.proofs.AnswerLaws.{outcome-unread}
-use Rattle.entries.proofs.EntryLaws.{start-good, start-rule, entry-answers}
+use Rattle.nest.specs.NestedLaws.{nested-goes, nested-same}
+use Rattle.entries.proofs.EntryLaws.{begun-refused, begun-start, start-good, entered}
 use borrow.Author.Needs.{needs}
 use Rattle.entries.proofs.entries.parse_key.Statement.{statement}
 use Rattle.entries.proofs.entries.parse_key.Tie as tie
 
-check-requires : tie.Need-check-requires
-check-requires c κs = search needs
+begin-requires : tie.Need-begin-requires
+begin-requires c κs = search needs
 
-enum-known-checked : tie.Need-enum-known-checked
-enum-known-checked c = search needs
+enum-known-begun : tie.Need-enum-known-begun
+enum-known-begun c = search needs
 
-enum-told : tie.Need-enum-told
-enum-told c = search needs
-
-new-requires : tie.Need-new-requires
-new-requires c κs = search needs
+enum-known-begun-2 : tie.Need-enum-known-begun-2
+enum-known-begun-2 c = search needs
 
 key-requires : tie.Need-key-requires
-key-requires c κs = start-good ((c .before .before .before .before .before .before .before .before .before .args) .s .now) ((c .before .before .before .before .before .before .before .before .before .args) .base) _ (sym ((c .before .before .before .before .before .check) .ensures) ∙ (c .before .before .before .enum-told) .given .1) ((c .before .before .new) .ensures)
+key-requires c κs = start-good (begun-start ((c .before .before .before .before .before .begin) .ensures) ((c .before .before .before .begun2) .given .1))
 
-closing-requires : tie.Need-closing-requires
-closing-requires c κs = (c .before .before .before .before .before .before .before .before .key) .ensures .goes .good
+unstopped-requires : tie.Need-unstopped-requires
+unstopped-requires c κs = search needs
 
-answer-of-requires : tie.Need-answer-of-requires
-answer-of-requires c κs = search needs
+answered-requires : tie.Need-answered-requires
+answered-requires c κs = (nested-same ((c .before .before .unstopped) .ensures) (nested-goes ((c .before .before .before .before .before .before .before .before .before .key) .ensures .goes))) .good
 
 returns : tie.Need-returns
-returns c = sym (outcome-unread keyEntry ((c .before .before .before .before .before .before .before .args) .s .now) ((c .before .before .before .before .before .before .before .args) .base) _ _ _ _ (sym ((c .before .before .before .check) .ensures) ∙ (c .before .checked) .given .1))
+returns c = begun-refused ((c .before .before .before .before .before .before .before .args) .s .now) ((c .before .before .before .before .before .before .before .args) .base) ((c .before .before .before .begin) .ensures) ((c .before .begun) .given .1) keyEntry _ _
 
 same-length : tie.Need-same-length
 same-length c = search needs
@@ -45,20 +38,18 @@ same-length-2 : tie.Need-same-length-2
 same-length-2 c = search needs
 
 returns-2 : tie.Need-returns-2
-returns-2 c =
-    entry-answers keyEntry ((c .before .before .before .before .before .before .before .before .before .before .before .before .before .before .before .before .before .before .before .before .before .before .before .before .args) .s .now) ((c .before .before .before .before .before .before .before .before .before .before .before .before .before .before .before .before .before .before .before .before .before .before .before .before .args) .base) _ _ (sym ((c .before .before .before .before .before .before .before .before .before .before .before .before .before .before .before .before .before .before .before .before .check) .ensures) ∙ (c .before .before .before .before .before .before .before .before .before .before .before .before .before .before .before .before .before .before .enum-told) .given .1) _ ((c .before .before .before .before .before .before .before .before .before .before .before .before .before .before .before .before .before .new) .ensures) _ _ _ _ (start-rule ((c .before .before .before .before .before .before .before .before .before .before .before .before .before .before .before .before .before .before .before .before .before .before .before .before .args) .s .now) ((c .before .before .before .before .before .before .before .before .before .before .before .before .before .before .before .before .before .before .before .before .before .before .before .before .args) .base) _ ((c .before .before .before .before .before .before .before .before .before .before .before .before .before .before .before .before .before .new) .ensures) (λ ts. key message.invalidKey ts then eof)) ((c .before .before .before .before .before .closing) .ensures _ _ _ (nested-goes ((c .before .before .before .before .before .before .before .before .before .before .before .before .before .before .key) .ensures .goes))) _ _ (ap (λ (n : ℕ). n / 4) ((c .before .before .before .before .before .closing .kept .1 .1 .0) ∙ (c .before .before .before .before .before .before .before .before .before .before .before .before .before .before .key .kept .1 .1 .1 .1 .0))) (ap (λ (n : ℕ). n / 6) ((c .before .before .before .before .before .closing .kept .1 .1 .1 .0) ∙ (c .before .before .before .before .before .before .before .before .before .before .before .before .before .before .key .kept .1 .1 .1 .1 .1 .0))) _ ((c .answer-of) .ensures)
+returns-2 c = (c .before .before .before .before .answered) .ensures keyEntry _ _ _ (entered keyEntry (key message.invalidKey) refl (begun-start ((c .before .before .before .before .before .before .before .before .before .before .before .before .before .before .before .before .before .before .before .before .begin) .ensures) ((c .before .before .before .before .before .before .before .before .before .before .before .before .before .before .before .before .before .before .begun2) .given .1)) (nested-same ((c .before .before .before .before .before .before .before .unstopped) .ensures) (nested-goes ((c .before .before .before .before .before .before .before .before .before .before .before .before .before .before .key) .ensures .goes))) ((c .before .before .before .before .before .before .before .before .before .before .before .before .before .before .key) .kept .1 .1 .1 .1 .0) ((c .before .before .before .before .before .before .before .before .before .before .before .before .before .before .key) .kept .1 .1 .1 .1 .1 .0))
 
 pub parse-key-spec : {M : Type 1} → statement M
 parse-key-spec =
     tie.close
     (tie.spec
-    check-requires
-    enum-known-checked
-    enum-told
-    new-requires
+    begin-requires
+    enum-known-begun
+    enum-known-begun-2
     key-requires
-    closing-requires
-    answer-of-requires
+    unstopped-requires
+    answered-requires
     returns
     same-length
     same-length-2

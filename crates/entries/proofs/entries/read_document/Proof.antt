@@ -1,13 +1,10 @@
--- The walk, what is left behind it, and the answer.
+-- The walk from the start, and the end that all entries have.
 -- Made by ./proofs from Proof.tmpl: change that.
-use mathlib.Core.Path.{ap, _∙_}
-use Prim.Native.Nat.{ℕ, _/_}
-use Rattle.rules.specs.Out.{_then_}
+use mathlib.Core.Path.{refl}
 use Rattle.rules.specs.Entries.{documentEntry}
-use Rattle.rules.specs.Skipping.{eof}
 use Rattle.rules.specs.Limits.{maxDepth}
 use Rattle.rules.specs.Document.{document}
-use Rattle.entries.proofs.EntryLaws.{start-good, start-rule, entry-answers}
+use Rattle.entries.proofs.EntryLaws.{start-good, entered}
 use borrow.Author.Needs.{needs}
 use Rattle.entries.proofs.entries.read_document.Statement.{statement}
 use Rattle.entries.proofs.entries.read_document.Tie as tie
@@ -16,13 +13,10 @@ new-requires : tie.Need-new-requires
 new-requires c κs = search needs
 
 document-requires : tie.Need-document-requires
-document-requires c κs = start-good ((c .before .before .before .before .before .before .args) .s .now) ((c .before .before .before .before .before .before .args) .base) _ (c .before .before .before .before .before .before .pre) ((c .before .before .new) .ensures)
+document-requires c κs = start-good (record { passed = (c .before .before .before .before .before .before .pre); at = (c .before .before .new) .ensures; none = refl })
 
-closing-requires : tie.Need-closing-requires
-closing-requires c κs = (c .before .before .before .before .before .before .document) .ensures .good
-
-answer-of-requires : tie.Need-answer-of-requires
-answer-of-requires c κs = search needs
+answered-requires : tie.Need-answered-requires
+answered-requires c κs = (c .before .before .before .before .before .before .document) .ensures .good
 
 same-length : tie.Need-same-length
 same-length c = search needs
@@ -31,8 +25,7 @@ same-length-2 : tie.Need-same-length-2
 same-length-2 c = search needs
 
 returns : tie.Need-returns
-returns c =
-    entry-answers documentEntry ((c .before .before .before .before .before .before .before .before .before .before .before .before .before .before .before .before .before .before .before .args) .s .now) ((c .before .before .before .before .before .before .before .before .before .before .before .before .before .before .before .before .before .before .before .args) .base) _ _ (c .before .before .before .before .before .before .before .before .before .before .before .before .before .before .before .before .before .before .before .pre) _ ((c .before .before .before .before .before .before .before .before .before .before .before .before .before .before .before .new) .ensures) _ _ _ _ (start-rule ((c .before .before .before .before .before .before .before .before .before .before .before .before .before .before .before .before .before .before .before .args) .s .now) ((c .before .before .before .before .before .before .before .before .before .before .before .before .before .before .before .before .before .before .before .args) .base) _ ((c .before .before .before .before .before .before .before .before .before .before .before .before .before .before .before .new) .ensures) (λ ts. document maxDepth ts then eof)) ((c .before .before .before .before .before .closing) .ensures _ _ _ ((c .before .before .before .before .before .before .before .before .before .before .before .before .document) .ensures)) _ _ (ap (λ (n : ℕ). n / 4) ((c .before .before .before .before .before .closing .kept .1 .1 .0) ∙ (c .before .before .before .before .before .before .before .before .before .before .before .before .document .kept .1 .1 .1 .1 .0))) (ap (λ (n : ℕ). n / 6) ((c .before .before .before .before .before .closing .kept .1 .1 .1 .0) ∙ (c .before .before .before .before .before .before .before .before .before .before .before .before .document .kept .1 .1 .1 .1 .1 .0))) _ ((c .answer-of) .ensures)
+returns c = (c .before .before .before .before .answered) .ensures documentEntry _ _ _ (entered documentEntry (document maxDepth) refl (record { passed = (c .before .before .before .before .before .before .before .before .before .before .before .before .before .before .before .before .before .before .pre); at = (c .before .before .before .before .before .before .before .before .before .before .before .before .before .before .new) .ensures; none = refl }) ((c .before .before .before .before .before .before .before .before .before .before .before .document) .ensures) ((c .before .before .before .before .before .before .before .before .before .before .before .document) .kept .1 .1 .1 .1 .0) ((c .before .before .before .before .before .before .before .before .before .before .before .document) .kept .1 .1 .1 .1 .1 .0))
 
 pub read-document-spec : {M : Type 1} → statement M
 read-document-spec =
@@ -40,8 +33,7 @@ read-document-spec =
     (tie.spec
     new-requires
     document-requires
-    closing-requires
-    answer-of-requires
+    answered-requires
     same-length
     same-length-2
     returns)
