@@ -1,7 +1,7 @@
 // The check of a list: refusals 1 to 5, in their order and with their places. What it lets through is what a cursor needs.
-use token::check::Checked;
-use token::check::MAX_END;
-use token::check::MAX_RECORDS;
+use token::checked::Checked;
+use token::checked::MAX_END;
+use token::checked::MAX_RECORDS;
 use token::record::kind_number_at;
 use token::record::length_at;
 ghost use mathlib.Core.Path.{_≡_};

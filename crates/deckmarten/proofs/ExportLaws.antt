@@ -4,7 +4,7 @@ use mathlib.Core.List.{List}
 use Prim.Native.Nat.{ℕ}
 use Rattle.rules.specs.declared.answer.Answer.{Answer}
 use Rattle.rules.specs.Entries.{Entry}
-use Rattle.grammar.specs.Answers.{Answers}
+use Rattle.entries.specs.Answers.{Answers}
 use Rattle.deckmarten.specs.declared.answer.ExportedAnswer.{ExportedAnswer}
 use Rattle.deckmarten.specs.Exported.{plain, Exports}
 

@@ -6,7 +6,7 @@ use Rattle.lex.specs.declared.Lexed.{Lexed}
 use Rattle.lex.specs.Lexed.{LexOutcome, lexOutcome}
 use Rattle.text_rules.specs.declared.answer.TextAnswer.{TextAnswer}
 use Rattle.text_rules.specs.TextOutcome.{TextAnswers}
-use Rattle.quiet.specs.declared.verdict.Verdict.{Verdict}
+use Rattle.verdicts.specs.declared.verdict.Verdict.{Verdict}
 use Rattle.texts.specs.TextVerdicts.{JudgesText}
 use Rattle.deckmarten.specs.declared.verdicts.ExportedVerdict.{ExportedVerdict}
 use Rattle.deckmarten.specs.ExportedVerdicts.{plainVerdict}

@@ -2,8 +2,8 @@
 use mathlib.Core.Path.{_≡_, sym, subst}
 use mathlib.Core.List.{List}
 use Prim.Native.Nat.{ℕ}
-use Rattle.quiet.specs.declared.verdict.Verdict.{Verdict}
-use Rattle.quiet.specs.Verdicts.{Judges}
+use Rattle.verdicts.specs.declared.verdict.Verdict.{Verdict}
+use Rattle.verdicts.specs.Verdicts.{Judges}
 use Rattle.deckmarten.specs.declared.verdicts.ExportedVerdict.{ExportedVerdict}
 use Rattle.deckmarten.specs.ExportedVerdicts.{plainVerdict, ExportsVerdict}
 

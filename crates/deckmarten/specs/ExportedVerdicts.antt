@@ -2,8 +2,8 @@
 use mathlib.Core.Path.{_≡_}
 use mathlib.Core.List.{List}
 use Prim.Native.Nat.{ℕ}
-use Rattle.quiet.specs.declared.verdict.Verdict.{Verdict}
-use Rattle.quiet.specs.Verdicts.{Judges}
+use Rattle.verdicts.specs.declared.verdict.Verdict.{Verdict}
+use Rattle.verdicts.specs.Verdicts.{Judges}
 use Rattle.deckmarten.specs.declared.verdicts.ExportedVerdict.{ExportedVerdict}
 
 -- the verdict that a C structure holds

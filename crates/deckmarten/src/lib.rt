@@ -8,10 +8,10 @@ pub mod verdicts;
 
 use crate::answer::ExportedAnswer;
 use crate::answer::exported;
-use grammar::entries::parse_document;
-use grammar::entries::parse_key;
-use grammar::entries::parse_simple_key;
-use grammar::entries::parse_value;
+use entries::entries::parse_document;
+use entries::entries::parse_key;
+use entries::entries::parse_simple_key;
+use entries::entries::parse_value;
 use structs::Token;
 use structs::parse_tokens;
 ghost use Rattle.rules.specs.Entries.{documentEntry, keyEntry, simpleKeyEntry, valueEntry};

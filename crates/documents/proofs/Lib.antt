@@ -1,2 +1,2 @@
 pub mod DocumentLaws
-pub mod KeyLaws
+pub mod KeyTurnLaws

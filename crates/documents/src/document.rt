@@ -1,8 +1,9 @@
 // The document loop.
+use expression_strays::strays::on_missing_expression_key;
+use expression_strays::strays::on_missing_std_table;
 use expressions::expression::key_and_value;
 use expressions::expression::on_expression_dot;
 use expressions::expression::on_expression_key;
-use lines::skipping::on_comment;
 use nest::nest::NestWalk;
 use nest::nest::unstopped;
 use output::emitting::Counts;
@@ -13,8 +14,7 @@ use output::message::KEY_WITH_NO_VALUE;
 use rules::document::InDocument;
 use rules::document::in_document;
 use rules::event::Event;
-use strays::strays::on_missing_expression_key;
-use strays::strays::on_missing_std_table;
+use skip_lines::skipping::on_comment;
 use tables::table::on_table;
 use token::cursor::Cursor;
 use token::cursor::Step;

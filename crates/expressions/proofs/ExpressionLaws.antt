@@ -24,8 +24,8 @@ use Rattle.output.specs.Walks.{Goes}
 use Rattle.output.specs.WalkLaws.{by-rule, run-done, goes-by, goes-on, goes-rest}
 use Rattle.nest.specs.declared.nest.NestWalk.{NestWalk}
 use Rattle.nest.specs.Nested.{Nested}
-use Rattle.dots.specs.DotLaws.{beyond-dot}
-use Rattle.dots.specs.SpaceLaws.{keys-from}
+use Rattle.key_dots.specs.DotLaws.{beyond-dot}
+use Rattle.key_dots.specs.SpaceLaws.{keys-from}
 
 -- the answer of a walk that was refused, made of its fields
 pub nested-stopped : {s : List ℕ} {r : Out} {c : Cursor} {o : Bufs} {a b : List ℕ} {v : NestWalk} → v .stopped ≡ true → Nested s r c o a b v → Nested s r c o a b (record { cur = v .cur; n = v .n; stopped = true })

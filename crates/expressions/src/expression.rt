@@ -1,9 +1,10 @@
 // Expressions: a key, `=` and a value.
 // What is handed to a function that stays out of line lies in memory from then on, so copies are handed on, and the walk's own cursor and
 // counts stay in registers.
-use dots::dots::dot_keys;
-use dots::dots::opt_whitespace;
-use endings::line_end::usual_line_end;
+use expression_strays::strays::no_equals;
+use key_dots::dots::dot_keys;
+use key_dots::dots::opt_whitespace;
+use line_ends::line_end::usual_line_end;
 use nest::nest::NestWalk;
 use nest::nest::unstopped;
 use output::emitting::Counts;
@@ -13,7 +14,6 @@ use output::message::KEY_WITH_NO_VALUE;
 use output::message::MISSING_VALUE_FOR_KEY;
 use rules::event::Encoding;
 use rules::event::Event;
-use strays::strays::no_equals;
 use token::cursor::Cursor;
 use token::cursor::Step;
 use token::cursor::Token;
@@ -28,7 +28,7 @@ ghost use Rattle.rules.specs.Messages as messages;
 ghost use Rattle.rules.specs.Receiver as receiver;
 ghost use Rattle.output.specs.Pour.{bufs, put};
 ghost use Rattle.nest.specs.Nested.{Nested};
-ghost use Rattle.dots.specs.KeyWalks.{ReadDot};
+ghost use Rattle.key_dots.specs.KeyWalks.{ReadDot};
 ghost use Rattle.expressions.specs.Expressed.{Expressed};
 
 // What is known when the first part of a key was emitted: where the walk of the rest starts, the counts, and what is said if no `=`

@@ -9,10 +9,11 @@ use Rattle.token.specs.CheckLaws.{checked-passes}
 use Rattle.token.specs.CursorLaws.{all-length}
 use Rattle.rules.specs.Entries.{documentEntry}
 use Rattle.rules.specs.Answer.{eventSize}
-use Rattle.rules.specs.Quiet.{QuietRun}
-use Rattle.rules.specs.Grammar.{UnquotedRest, scalarEnds, dotOrAtom, whitespaceAtom}
-use Rattle.rules.specs.Premises.{Regular, documentRun, eventsIn, eventsLeft, SameButForCuts, sameRest, sameToken, sameTwoTokens, cutOtherwise}
-use Rattle.rules.proofs.OutcomeLaws.{quiet-outcome, counted-events, event-room}
+use Rattle.fitting.specs.Quiet.{QuietRun}
+use Rattle.fitting.specs.Grammar.{UnquotedRest, scalarEnds, dotOrAtom, whitespaceAtom}
+use Rattle.fitting.specs.Premises.{Regular, documentRun, eventsIn, eventsLeft, SameButForCuts, sameRest, sameToken, sameTwoTokens, cutOtherwise}
+use Rattle.rules.proofs.OutcomeLaws.{counted-events, event-room}
+use Rattle.fitting.proofs.QuietLaws.{quiet-outcome}
 use Rattle.index.specs.Outcome.{Indexable}
 
 -- behind an unquoted scalar there are no more tokens than before

@@ -16,7 +16,8 @@ use crate::state::begin;
 use crate::walked::walk;
 use quiet::run::is_quiet;
 use rules::answer::Answer;
-use token::check::MAX_RECORDS;
+use rules::answer::EVENT_WORDS;
+use token::checked::MAX_RECORDS;
 ghost use mathlib.Core.Path.{_≡_};
 ghost use mathlib.Core.Bool.{true};
 ghost use mathlib.Core.Logic.{_↔_};
@@ -39,7 +40,7 @@ fn is_indexable(answer: Answer, events: &[u32]) -> bool
     ensures { λ r. ⌜ (r ≡ true) ↔ Indexable answer (now (events .entry)) ⌝ }
 {
     let n = answer.events;
-    if events.len() / 4 < n {
+    if events.len() / EVENT_WORDS < n {
         return false;
     }
     if MAX_RECORDS < n {

@@ -1,9 +1,9 @@
 // What the definitions amount to, each as the contract of a function that does nothing.
+use fitting::theorems::quiet_events_determine_tokens;
 use rules::answer::Answer;
-use rules::theorems::quiet_events_determine_tokens;
 ghost use Rattle.token.specs.Tokens.{allTokens};
-ghost use Rattle.rules.specs.Quiet.{QuietRun};
-ghost use Rattle.rules.specs.Premises.{Regular, documentRun};
+ghost use Rattle.fitting.specs.Quiet.{QuietRun};
+ghost use Rattle.fitting.specs.Premises.{Regular, documentRun};
 ghost use Rattle.index.specs.Outcome.{IndexDetermined, Indexable};
 ghost use Rattle.index.specs.Reads.{IndexReads};
 

@@ -4,6 +4,7 @@ use crate::entry::put_entry;
 use crate::state::IndexState;
 use crate::state::opens_header;
 use crate::state::stepped;
+use rules::answer::EVENT_WORDS;
 ghost use mathlib.Core.Path.{_≡_};
 ghost use mathlib.Core.List.{_++_};
 ghost use Prim.Native.Nat.{_+_, _*_, _≤_};
@@ -42,7 +43,7 @@ pub fn walked(state: IndexState, events: &[u32], n: usize, index: &mut [u8]) -> 
     let mut k = 0;
     let mut i = 0;
     while i < n {
-        let kind = events[i * 4];
+        let kind = events[i * EVENT_WORDS];
         let ends = opens_header(kind);
         k = finish(index, k, ends, builder);
         builder = stepped(builder, kind);

@@ -7,7 +7,7 @@ use crate::refusals::NOT_UTF8;
 use crate::refusals::TEXT_TOO_LONG;
 use places::is_at;
 use scan::lexer::process_token;
-use token::check::MAX_END;
+use token::checked::MAX_END;
 use token::kind::Kind;
 use token::kind::number_of;
 use token::writing::put_record;

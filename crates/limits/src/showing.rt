@@ -1,5 +1,5 @@
 // What comes of a list, printed as a line.
-use grammar::entries::parse_document;
+use entries::entries::parse_document;
 use rules::answer::Answer;
 ghost use Prim.Native.Nat.{_≤_};
 ghost use lib.ListN.{length};

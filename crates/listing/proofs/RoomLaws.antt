@@ -8,7 +8,7 @@ use native.Mathlib.Omega.{arith}
 use lib.ListN.{length, getD}
 use lib.Dec.{ltb}
 use borrow.Author.Tests.{ltb-false}
-use Rattle.token.specs.declared.check.Checked.{Checked}
+use Rattle.token.specs.declared.checked.Checked.{Checked}
 use Rattle.token.specs.Tokens.{Tok, allTokens}
 use Rattle.token.specs.Check.{checked}
 use Rattle.rules.specs.declared.answer.Answer.{Answer}
@@ -17,7 +17,7 @@ use Rattle.rules.specs.Out.{Item, event, eventAfter, report, stop}
 use Rattle.rules.specs.Words.{eventNumber, eventsOf, errorsOf, Halt, ended, refusedLevel, haltOf}
 use Rattle.rules.specs.Entries.{Entry, parse}
 use Rattle.rules.specs.Answer.{Outcome, filled, refusalBy, walked, outcomeBy, outcome}
-use Rattle.grammar.specs.Answers.{Answers}
+use Rattle.entries.specs.Answers.{Answers}
 use Rattle.rules.proofs.BufferLaws.{word-in}
 use Rattle.rules.proofs.OutcomeLaws.{events-sized}
 use Rattle.listing.specs.Named.{Named, AllNamed}

@@ -8,7 +8,7 @@ use crate::printing::print_errors;
 use crate::printing::print_events;
 use crate::printing::print_head;
 use crate::printing::print_refusal;
-use grammar::entries::parse_document;
+use entries::entries::parse_document;
 
 // The most bytes that are listed: 512 records.
 const MOST: usize = 3072;

@@ -20,9 +20,9 @@ use Rattle.output.specs.declared.emitting.Counts.{Counts}
 use Rattle.output.specs.Pour.{Bufs, bufs, refused, put}
 use Rattle.output.specs.Walks.{run}
 use Rattle.output.specs.TurnLaws.{Turns, onward, turn-same, fewer-left}
-use Rattle.arrays.specs.declared.turn.Next.{Next}
+use Rattle.array_parts.specs.declared.turn.Next.{Next}
 use Rattle.nest.specs.declared.nest.NestWalk.{NestWalk}
-use Rattle.arrays.specs.Turning.{goOn, Further, Turned}
+use Rattle.array_parts.specs.Turning.{goOn, Further, Turned}
 use Rattle.nest.specs.Nested.{Nested}
 use Rattle.nest.specs.NestedLaws.{nested-stop, nested-done, then-nested, nested-from}
 

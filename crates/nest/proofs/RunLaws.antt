@@ -12,9 +12,9 @@ use Rattle.rules.specs.Turns.{turns}
 use Rattle.rules.specs.Array.{Nest, arrayTurn}
 use Rattle.output.specs.Pour.{Bufs, bufs}
 use Rattle.output.specs.TurnLaws.{Turns, fewer-left}
-use Rattle.arrays.specs.declared.turn.Next.{Next}
-use Rattle.arrays.specs.declared.array.ArrayTurn.{ArrayTurn}
-use Rattle.arrays.specs.Turning.{Further, Wants, Turned}
+use Rattle.array_parts.specs.declared.turn.Next.{Next}
+use Rattle.array_turns.specs.declared.array.ArrayTurn.{ArrayTurn}
+use Rattle.array_parts.specs.Turning.{Further, Wants, Turned}
 use Rattle.nest.specs.Ran.{Enough, Ran}
 use Rattle.nest.proofs.NestLaws.{turned, turn-next}
 

@@ -20,9 +20,9 @@ use Rattle.rules.specs.Nest.{onOpen}
 use Rattle.output.specs.Pour.{Bufs, bufs, put}
 use Rattle.output.specs.Walks.{End, run}
 use Rattle.output.specs.WalkLaws.{first-item, first-items}
-use Rattle.arrays.specs.declared.turn.Next.{Next}
-use Rattle.arrays.specs.declared.array.ArrayTurn.{ArrayTurn}
-use Rattle.arrays.specs.Turning.{goOn, Further, Wants}
+use Rattle.array_parts.specs.declared.turn.Next.{Next}
+use Rattle.array_turns.specs.declared.array.ArrayTurn.{ArrayTurn}
+use Rattle.array_parts.specs.Turning.{goOn, Further, Wants}
 use Rattle.nest.specs.declared.nest.NestWalk.{NestWalk}
 use Rattle.nest.specs.Nested.{Nested}
 use Rattle.nest.specs.NestedLaws.{nested-stop, nested-done, then-nested, nested-from}

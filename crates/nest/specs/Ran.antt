@@ -12,9 +12,9 @@ use Rattle.rules.specs.Turns.{turns}
 use Rattle.rules.specs.Array.{Nest, arrayTurn}
 use Rattle.output.specs.Pour.{Bufs, bufs}
 use Rattle.output.specs.Walks.{run}
-use Rattle.arrays.specs.declared.turn.Next.{Next}
-use Rattle.arrays.specs.declared.array.ArrayTurn.{ArrayTurn}
-use Rattle.arrays.specs.Turning.{goOn, Further, Wants}
+use Rattle.array_parts.specs.declared.turn.Next.{Next}
+use Rattle.array_turns.specs.declared.array.ArrayTurn.{ArrayTurn}
+use Rattle.array_parts.specs.Turning.{goOn, Further, Wants}
 
 -- so many turns are enough for the tokens left, unless no turn follows
 abbrev pub Enough : Next → ℕ → ℕ → Type 0

@@ -2,12 +2,12 @@
 // What is handed to a function lies in memory from then on, so copies are handed on, and the loops' own cursor and counts stay in
 // registers.
 use crate::turns::array_turns;
-use arrays::turn::Next;
-use inline::inline_table::inline_table_turn;
+use array_parts::turn::Next;
+use inline_parts::actions::action_table;
+use inline_turns::inline_table::inline_table_turn;
 use output::emitting::Counts;
 use output::emitting::Walk;
 use output::emitting::emit;
-use pairs::actions::action_table;
 use rules::array::ArrayState;
 use rules::event::Event;
 use rules::inline_table::Progress;

@@ -1,8 +1,8 @@
 // Turns of an array, up to one behind which a bracket opens or the array is over. The loop stands alone, so that what it needs at
 // each turn stays in registers.
-use arrays::array::ArrayTurn;
-use arrays::array::array_turn;
-use arrays::turn::Next;
+use array_parts::turn::Next;
+use array_turns::array::ArrayTurn;
+use array_turns::array::array_turn;
 use output::emitting::Counts;
 use rules::array::ArrayState;
 use token::cursor::Cursor;

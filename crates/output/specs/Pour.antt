@@ -10,14 +10,15 @@ use Rattle.token.specs.declared.span.Span.{Span}
 use Rattle.rules.specs.declared.event.Event.{Event}
 use Rattle.rules.specs.Out.{Item, event, eventAfter, report, stop}
 use Rattle.rules.specs.Words.{eventNumber, encodingOf, lookedUp, spanOf, Halt, ended, refusedLevel}
+use Rattle.rules.specs.Answer.{eventSize, errorSize}
 use Rattle.output.specs.declared.emitting.Counts.{Counts}
 
 -- entry i of a buffer, if there is room for it
 unfoldable pub putEvent : List ℕ → ℕ → ℕ → ℕ → ℕ → ℕ → List ℕ
-putEvent l i a b c d = cond (ltb i (length l / 4)) (set (set (set (set l (i * 4) a) (i * 4 + 1) b) (i * 4 + 2) c) (i * 4 + 3) d) l
+putEvent l i a b c d = cond (ltb i (length l / eventSize)) (set (set (set (set l (i * eventSize) a) (i * eventSize + 1) b) (i * eventSize + 2) c) (i * eventSize + 3) d) l
 
 unfoldable pub putError : List ℕ → ℕ → ℕ → ℕ → ℕ → ℕ → ℕ → ℕ → List ℕ
-putError l i a b c d e f = cond (ltb i (length l / 6)) (set (set (set (set (set (set l (i * 6) a) (i * 6 + 1) b) (i * 6 + 2) c) (i * 6 + 3) d) (i * 6 + 4) e) (i * 6 + 5) f) l
+putError l i a b c d e f = cond (ltb i (length l / errorSize)) (set (set (set (set (set (set l (i * errorSize) a) (i * errorSize + 1) b) (i * errorSize + 2) c) (i * errorSize + 3) d) (i * errorSize + 4) e) (i * errorSize + 5) f) l
 
 -- one more, up to a bound that no list of the rules reaches
 unfoldable pub more : ℕ → ℕ

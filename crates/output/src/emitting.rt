@@ -1,4 +1,6 @@
-// Emitting: an event of four words, an error of six, into the lent buffers. What does not fit is counted and not written.
+// Emitting: the words of an event, or of an error, into the lent buffers. What does not fit is counted and not written.
+use rules::answer::ERROR_WORDS;
+use rules::answer::EVENT_WORDS;
 use rules::event::Encoding;
 use rules::event::Event;
 use rules::event::encoding_of;
@@ -35,8 +37,8 @@ fn one_more(i: usize) -> usize
 fn put_event(events: &mut [u32], i: usize, kind: u32, encoding: u32, start: u32, end: u32)
     ensures { λ _. ⌜ now (events .exit) ≡ putEvent (now (events .entry)) i kind encoding start end ⌝ }
 {
-    if i < events.len() / 4 {
-        let b = i * 4;
+    if i < events.len() / EVENT_WORDS {
+        let b = i * EVENT_WORDS;
         events[b] = kind;
         events[b + 1] = encoding;
         events[b + 2] = start;
@@ -56,8 +58,8 @@ fn put_error(
 )
     ensures { λ _. ⌜ now (errors .exit) ≡ putError (now (errors .entry)) i message expected «from» to start end ⌝ }
 {
-    if i < errors.len() / 6 {
-        let b = i * 6;
+    if i < errors.len() / ERROR_WORDS {
+        let b = i * ERROR_WORDS;
         errors[b] = message;
         errors[b + 1] = expected;
         errors[b + 2] = from;

@@ -1,6 +1,5 @@
 pub mod Decided
 pub mod RunLaws
-pub mod KeyLaws
+pub mod MultiLineKeyLaws
 pub mod NumberLaws
 pub mod RegularLaws
-pub mod VerdictLaws

@@ -12,7 +12,7 @@ use Rattle.token.specs.declared.kind.Kind.{Kind}
 use Rattle.token.specs.declared.kind.Kind.the-variants.{Dot, Equals, Comma, LeftSquareBracket, RightSquareBracket, LeftCurlyBracket, RightCurlyBracket, Whitespace, Comment, Newline, LiteralString, BasicString, MlLiteralString, MlBasicString, Atom, Eof}
 use Rattle.token.specs.Records.{count, lengthAt, kindAt}
 use Rattle.token.specs.Tokens.{Tok, tok, tokensFrom, allTokens}
-use Rattle.rules.specs.Premises.{OneEofLast, onlyEof, beforeEof, NoAdjacentWhitespace, noToken, oneToken, notBoth, Regular}
+use Rattle.fitting.specs.Premises.{OneEofLast, onlyEof, beforeEof, NoAdjacentWhitespace, noToken, oneToken, notBoth, Regular}
 use Rattle.quiet.specs.Regular.{both, isWhitespace, isEof}
 
 -- a kind is known by its test

@@ -45,7 +45,7 @@ errors-loud answer events h = decided-no (λ q. h (q .errorless))
 
 module _ (answer : Answer) (events : List ℕ) where
   abbrev whole : ℕ
-  whole = length events / 4
+  whole = length events / eventSize
 
   beyond : (i : ℕ) → length events ≤ i → getD events i 0 ≡ 0
   beyond i h = List·getD-eq-default events 0 {n = i} h

@@ -1,3 +1,3 @@
 pub mod Runs
 pub mod Regular
-pub mod Verdicts
+pub mod Determined

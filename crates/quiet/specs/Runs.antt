@@ -6,7 +6,7 @@ use mathlib.Core.List.{List, []}
 use lib.ListN.{getD}
 use Rattle.rules.specs.declared.answer.Answer.{Answer}
 use Rattle.rules.specs.Answer.{eventSize}
-use Rattle.rules.specs.Quiet.{QuietRun, multiLineKey, NoMultiLineKey}
+use Rattle.fitting.specs.Quiet.{QuietRun, multiLineKey, NoMultiLineKey}
 
 -- the answer and the event words are those of a quiet run; the error words do not matter
 abbrev pub QuietAnswer : Answer → List ℕ → Type 0

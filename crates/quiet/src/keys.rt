@@ -1,13 +1,14 @@
 // Whether a key of a run is a multi-line string, by its event words. The Rust reads such a key with no report, but it is no key of TOML 1.0.0.
 use crate::run::is_quiet;
 use rules::answer::Answer;
+use rules::answer::EVENT_WORDS;
 ghost use mathlib.Core.Path.{_≡_};
 ghost use mathlib.Core.Bool.{true};
 ghost use mathlib.Core.Logic.{_↔_};
 ghost use Prim.Native.Nat.{_*_, _≤_};
 ghost use lib.ListN.{length};
 ghost use Rattle.rules.specs.Answer.{eventSize};
-ghost use Rattle.rules.specs.Quiet.{multiLineKey};
+ghost use Rattle.fitting.specs.Quiet.{multiLineKey};
 ghost use Rattle.quiet.specs.Runs.{NoneMultiLine, QuietAnswer, SingleLineAnswer};
 
 // Whether an event of this kind and encoding, its first two words, is such a key: simple_key, encoding 3 or 4.
@@ -30,8 +31,8 @@ fn none_multi_line(events: &[u32], n: usize) -> bool
 {
     let mut i = 0;
     while i < n {
-        let kind = events[i * 4];
-        let encoding = events[i * 4 + 1];
+        let kind = events[i * EVENT_WORDS];
+        let encoding = events[i * EVENT_WORDS + 1];
         if is_multi_line_key(kind, encoding) {
             return false;
         }
@@ -46,15 +47,15 @@ pub fn has_no_multi_line_key(answer: Answer, events: &[u32]) -> bool
     ensures { λ r. ⌜ (r ≡ true) ↔ SingleLineAnswer answer (now (events .entry)) ⌝ }
 {
     let n = answer.events;
-    let whole = events.len() / 4;
+    let whole = events.len() / EVENT_WORDS;
     if n <= whole {
         return none_multi_line(events, n);
     }
-    let second = whole * 4 + 1;
+    let second = whole * EVENT_WORDS + 1;
     if events.len() <= second {
         return none_multi_line(events, whole);
     }
-    let kind = events[whole * 4];
+    let kind = events[whole * EVENT_WORDS];
     let encoding = events[second];
     if is_multi_line_key(kind, encoding) {
         return false;

@@ -1,8 +1,6 @@
-// Whether a list of token records is good to act on: what is asked of a run's answer, of the list, and of both at once. This is what
-// programs cite for a yes.
-pub mod judging;
+// What is asked of a run's answer and of a list before it is acted on: whether the run was quiet, whether a key is a multi-line string, and
+// whether the list is as the grammar supposes.
 pub mod keys;
 pub mod regular;
 pub mod run;
 pub mod theorems;
-pub mod verdict;

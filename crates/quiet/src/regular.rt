@@ -5,7 +5,7 @@ ghost use mathlib.Core.Bool.{true};
 ghost use mathlib.Core.Logic.{_↔_};
 ghost use Rattle.token.specs.Kinds.{kindOf};
 ghost use Rattle.token.specs.Tokens.{allTokens};
-ghost use Rattle.rules.specs.Premises.{Regular};
+ghost use Rattle.fitting.specs.Premises.{Regular};
 ghost use Rattle.quiet.specs.Regular.{both, isWhitespace, isEof};
 
 fn both(a: bool, b: bool) -> bool

@@ -1,5 +1,6 @@
 // Whether a run was quiet, by its answer and its event words.
 use rules::answer::Answer;
+use rules::answer::EVENT_WORDS;
 ghost use mathlib.Core.Path.{_≡_};
 ghost use mathlib.Core.Bool.{true};
 ghost use mathlib.Core.Logic.{_↔_};
@@ -8,14 +9,14 @@ ghost use lib.ListN.{length};
 ghost use Rattle.rules.specs.Answer.{eventSize};
 ghost use Rattle.quiet.specs.Runs.{NoneEmpty, QuietAnswer};
 
-// Whether none of the first n events has an empty span. An event is four words; word 2 is its start, word 3 its end.
+// Whether none of the first n events has an empty span. Word 2 of an event is its start, word 3 its end.
 fn none_empty(events: &[u32], n: usize) -> bool
     requires { ⌜ n * eventSize ≤ length (now events) ⌝ }
     ensures { λ r. ⌜ (r ≡ true) ↔ NoneEmpty n (now (events .entry)) ⌝ }
 {
     let mut i = 0;
     while i < n {
-        if events[i * 4 + 2] == events[i * 4 + 3] {
+        if events[i * EVENT_WORDS + 2] == events[i * EVENT_WORDS + 3] {
             return false;
         }
         i += 1;
@@ -37,14 +38,14 @@ pub fn is_quiet(answer: Answer, events: &[u32]) -> bool
         return false;
     }
     let n = answer.events;
-    let whole = events.len() / 4;
+    let whole = events.len() / EVENT_WORDS;
     if n <= whole {
         return none_empty(events, n);
     }
     if whole + 1 < n {
         return false;
     }
-    let start = whole * 4 + 2;
+    let start = whole * EVENT_WORDS + 2;
     if events.len() <= start {
         return false;
     }

@@ -1,13 +1,9 @@
 // What the contracts amount to, each as the contract of a function that does nothing.
 use rules::answer::Answer;
-use rules::theorems::fits_then_quiet;
-ghost use Prim.Native.Nat.{ℕ};
-ghost use mathlib.Core.List.{List};
 ghost use Rattle.token.specs.Tokens.{allTokens};
-ghost use Rattle.rules.specs.Premises.{Regular};
-ghost use Rattle.quiet.specs.declared.verdict.Verdict.{Verdict};
+ghost use Rattle.fitting.specs.Premises.{Regular};
 ghost use Rattle.quiet.specs.Runs.{QuietAnswer, SingleLineAnswer};
-ghost use Rattle.quiet.specs.Verdicts.{DeterminedTest, DeterminedVerdict, Judges, Judged};
+ghost use Rattle.quiet.specs.Determined.{DeterminedTest};
 
 // Two answers of `is_quiet` that both meet its contract for the same input are equal.
 pub fn quiet_is_determined(answer: Answer, events: &[u32])
@@ -23,15 +19,3 @@ pub fn keys_are_determined(answer: Answer, events: &[u32])
 pub fn regular_is_determined(records: &[u8], base: u32)
     ensures { λ _. ⌜ DeterminedTest (Regular (allTokens (now (records .entry)) base)) ⌝ }
 {}
-
-// Two of `fits`, each with the event buffer that it leaves.
-pub fn verdicts_are_determined(records: &[u8], base: u32, events: &[u32])
-    ensures { λ _. ⌜ DeterminedVerdict (now (records .entry)) base (now (events .entry)) ⌝ }
-{}
-
-// What an answer of `fits` says by itself: without a refusal, whether the list is sound; and a yes comes without a refusal.
-pub fn verdicts_judge(records: &[u8], base: u32, events: &[u32])
-    ensures { λ _. ⌜ ((after : List ℕ) (v : Verdict) → Judges (now (records .entry)) base (now (events .entry)) after v → Judged (now (records .entry)) base v) ⌝ }
-{
-    fits_then_quiet(records, base, events, &[0u32; 0])
-}

@@ -1,25 +1,18 @@
--- From an entry's outcome to the rules' items and back: what a passed check leaves to be done, when a run is quiet, and which
--- events stand in the buffer. So a theorem about items can be said of the answer and the buffers.
-use mathlib.Core.Path.{_≡_, refl, ap, sym, subst, _∙_}
-use mathlib.Core.Bool.{Bool, true, false}
-use mathlib.Core.Logic.{_↔_}
+-- From an entry's outcome to the rules' items and back: what a passed check leaves to be done, what is counted, and which events and
+-- errors stand in the buffers. So a theorem about items can be said of the answer and the buffers. Nothing here needs to be believed.
+use mathlib.Core.Path.{_≡_, refl, ap}
 use mathlib.Core.List.{List, [], _∷_}
-use Prim.Native.Nat.{ℕ, zero, suc, _+_, _*_, _/_, _<_, _≤_}
+use Prim.Native.Nat.{ℕ, _*_, _/_, _≤_}
 use native.Mathlib.Omega.{arith}
-use lib.ListN.{length, take, getD}
-use borrow.Author.Tests.{ltb-false, le-ltb}
-use Rattle.token.specs.declared.check.Checked.{Checked}
+use lib.ListN.{length, take}
+use Rattle.token.specs.declared.checked.Checked.{Checked}
 use Rattle.token.specs.Tokens.{Tok, allTokens}
 use Rattle.token.specs.Check.{checked}
-use Rattle.token.specs.CheckLaws.{refused-number}
-use Rattle.rules.specs.declared.event.Event.{Event}
 use Rattle.rules.specs.Out.{Item, event, eventAfter, report, stop}
 use Rattle.rules.specs.Entries.{Entry, parse}
-use Rattle.rules.specs.Words.{eventsOf, errorsOf, Halt, ended, refusedLevel, haltOf}
-use Rattle.rules.specs.Answer.{eventSize, errorSize, Outcome, joined, filled, refusalBy, walked, outcomeBy, outcome}
-use Rattle.rules.specs.Grammar.{Parts, AnyKind}
-use Rattle.rules.specs.Quiet.{KeyIn, Quiet, QuietRun}
-use Rattle.rules.proofs.BufferLaws.{Sized, sizedNone, sizedEntry, joined-known, take-entries, word-in, filled-length}
+use Rattle.rules.specs.Words.{eventsOf, errorsOf}
+use Rattle.rules.specs.Answer.{eventSize, errorSize, Outcome, joined, filled, walked, outcomeBy, outcome}
+use Rattle.rules.proofs.BufferLaws.{Sized, sizedNone, sizedEntry, joined-known, take-entries, filled-length}
 
 -- an event has four words, an error six
 pub events-sized : (all : List Tok) (is : List Item) → Sized eventSize (eventsOf all is)
@@ -42,130 +35,7 @@ pub passed-outcome : (e : Entry) (s : List ℕ) (base : ℕ) (evs ers : List ℕ
 unfolding outcome
 passed-outcome e s base evs ers h = ap (λ (c : Checked). outcomeBy c e s base evs ers) h
 
--- a quiet run of items: it goes to its end, reports nothing, and no event has an empty span
-pub quiet-ended : (P : Parts) (is : List Item) → Quiet P is → haltOf is ≡ ended
-quiet-ended P [] q = refl
-quiet-ended P (event g a b ∷ is) q = quiet-ended P is (q .1)
-quiet-ended P (eventAfter g l ∷ is) q = absurd q
-quiet-ended P (report m x c u ∷ is) q = absurd q
-quiet-ended P (stop n ∷ is) q = absurd q
-
-pub quiet-errorless : (all : List Tok) (is : List Item) → Quiet AnyKind is → errorsOf all is ≡ []
-quiet-errorless all [] q = refl
-quiet-errorless all (event g a b ∷ is) q = quiet-errorless all is (q .1)
-quiet-errorless all (eventAfter g l ∷ is) q = absurd q
-quiet-errorless all (report m x c u ∷ is) q = absurd q
-quiet-errorless all (stop n ∷ is) q = absurd q
-
--- word 2 of event i is its start, word 3 its end
-abbrev pub EmptyAt : List (List ℕ) → ℕ → Type 0
-EmptyAt ws i = getD (getD ws i []) 2 0 ≡ getD (getD ws i []) 3 0
-
-pub quiet-nonempty : (all : List Tok) (is : List Item) → Quiet AnyKind is → (i : ℕ) → i < length (eventsOf all is) → EmptyAt (eventsOf all is) i → ⊥
-quiet-nonempty all [] q i h e = omega arith
-quiet-nonempty all (event g a b ∷ is) q zero h e = q .0 .0 e
-quiet-nonempty all (event g a b ∷ is) q (suc i) h e = quiet-nonempty all is (q .1) i (omega arith) e
-quiet-nonempty all (eventAfter g l ∷ is) q i h e = absurd q
-quiet-nonempty all (report m x c u ∷ is) q i h e = absurd q
-quiet-nonempty all (stop n ∷ is) q i h e = absurd q
-
--- any kind will do
-pub any-key : (g : Event) → KeyIn AnyKind g
-any-key Event.StdTableOpen = tt
-any-key Event.StdTableClose = tt
-any-key Event.ArrayTableOpen = tt
-any-key Event.ArrayTableClose = tt
-any-key (Event.SimpleKey c) = tt
-any-key Event.KeySep = tt
-any-key Event.KeyValSep = tt
-any-key (Event.Scalar c) = tt
-any-key Event.ValueSep = tt
-any-key Event.ArrayOpen = tt
-any-key Event.ArrayClose = tt
-any-key Event.InlineTableOpen = tt
-any-key Event.InlineTableClose = tt
-any-key Event.Whitespace = tt
-any-key Event.Comment = tt
-any-key Event.Newline = tt
-any-key Event.Error = tt
-
--- and back
-abbrev IsEnded : Halt → Type 0
-IsEnded ended = Unit {0}
-IsEnded (refusedLevel n) = ⊥
-
-pub quiet-items : (all : List Tok) (is : List Item) → haltOf is ≡ ended → length (errorsOf all is) ≡ 0 → ((i : ℕ) → i < length (eventsOf all is) → EmptyAt (eventsOf all is) i → ⊥) → Quiet AnyKind is
-quiet-items all [] t z h = tt
-quiet-items all (event g a b ∷ is) t z h = ((λ e. h 0 (omega arith) e, any-key g), quiet-items all is t z (λ i l e. h (suc i) (omega arith) e))
-quiet-items all (eventAfter g l ∷ is) t z h = h 0 (omega arith) refl
-quiet-items all (report m x c u ∷ is) t z h = omega arith
-quiet-items all (stop n ∷ is) t z h = subst IsEnded (sym t) tt
-
--- no refusal: the walk went to its end, and both lists fit
-none-refused : (t : Halt) (shortEvents shortErrors : Bool) → refusalBy t shortEvents shortErrors ≡ 0 → (t ≡ ended) × (shortEvents ≡ false) × (shortErrors ≡ false)
-none-refused ended true b e = absurd (omega (arith, e))
-none-refused ended false true e = absurd (omega (arith, e))
-none-refused ended false false e = (refl, refl, refl)
-none-refused (refusedLevel n) a b e = absurd (omega (arith, e))
-
-module _ (all : List Tok) (is : List Item) (evs ers : List ℕ) where
-  -- a quiet run of the outcome: its events fit
-  pub quiet-fits : QuietRun (walked all is evs ers) → length (eventsOf all is) ≤ length evs / eventSize
-  unfolding walked
-  quiet-fits q = ltb-false _ _ (none-refused (haltOf is) _ _ (q .accepted) .1)
-
-  -- the words of event i, in the list and in the buffer
-  pub word-at : (i j : ℕ) → length (eventsOf all is) ≤ length evs / eventSize → i < length (eventsOf all is) → j < eventSize
-      → getD (filled eventSize (eventsOf all is) evs) (i * eventSize + j) 0 ≡ getD (getD (eventsOf all is) i []) j 0
-  word-at i j h l m = word-in evs i j 0 (events-sized all is) h l m
-
-  pub quiet-run-items : QuietRun (walked all is evs ers) → Quiet AnyKind is
-  unfolding walked
-  quiet-run-items q =
-      let fits = quiet-fits q in
-      quiet-items all is (none-refused (haltOf is) _ _ (q .accepted) .0) (q .errorless)
-      (λ i l e. q .nonempty i l (word-at i 2 fits l (omega arith) ∙ e ∙ sym (word-at i 3 fits l (omega arith))))
-
-  pub quiet-items-run : Quiet AnyKind is → length (eventsOf all is) ≤ length evs / eventSize → QuietRun (walked all is evs ers)
-  unfolding walked
-  quiet-items-run q h =
-      record {
-        accepted = simp (quiet-ended AnyKind is q, quiet-errorless all is q, le-ltb _ _ h, le-ltb (length ers / errorSize) 0 (omega arith));
-        errorless = ap length (quiet-errorless all is q);
-        nonempty = λ i l e. quiet-nonempty all is q i l (sym (word-at i 2 h l (omega arith)) ∙ e ∙ word-at i 3 h l (omega arith));
-      }
-
--- what a quiet run of an entry is, with keys of the kinds P, said of the check, the rules' items and the room for events
-pub record QuietOutcome (P : Parts) (e : Entry) (s : List ℕ) (base : ℕ) (evs : List ℕ) : Type 0 where
-  pub passed : checked s base ≡ Checked.Passed
-  pub quiet : Quiet P (parse e (allTokens s base) .items)
-  pub fits : length (eventsOf (allTokens s base) (parse e (allTokens s base) .items)) ≤ length evs / eventSize
-
 module _ (e : Entry) (s : List ℕ) (base : ℕ) (evs ers : List ℕ) where
-  -- refusals 1 to 5 are no quiet run
-  by-check : (c : Checked) → checked s base ≡ c → QuietRun (outcomeBy c e s base evs ers) → checked s base ≡ Checked.Passed
-  by-check Checked.Passed h q = h
-  by-check (Checked.Refused r i) h q = absurd (refused-number s base r i h (q .accepted))
-
-  pub quiet-passed : QuietRun (outcome e s base evs ers) → checked s base ≡ Checked.Passed
-  unfolding outcome
-  quiet-passed q = by-check (checked s base) refl q
-
-  -- nor are 6, 7 and 8: the items are quiet, with which the walk goes to its end and reports nothing, and the events fit
-  pub quiet-outcome : QuietRun (outcome e s base evs ers) → QuietOutcome AnyKind e s base evs
-  quiet-outcome q =
-      let p = quiet-passed q in
-      let w = subst QuietRun (passed-outcome e s base evs ers p) q in
-      record { passed = p; quiet = quiet-run-items (allTokens s base) (parse e (allTokens s base) .items) evs ers w; fits = quiet-fits (allTokens s base) (parse e (allTokens s base) .items) evs ers w }
-
-  pub outcome-quiet : QuietOutcome AnyKind e s base evs → QuietRun (outcome e s base evs ers)
-  outcome-quiet q =
-      subst QuietRun (sym (passed-outcome e s base evs ers (q .passed)))
-      (quiet-items-run (allTokens s base) (parse e (allTokens s base) .items) evs ers (q .quiet) (q .fits))
-
-  pub quiet-iff : QuietRun (outcome e s base evs ers) ↔ QuietOutcome AnyKind e s base evs
-  quiet-iff = (quiet-outcome, outcome-quiet)
-
   -- refusals 1 to 5: no entry is counted, and both buffers are as they were
   pub refused-outcome : (r i : ℕ) → checked s base ≡ Checked.Refused r i
       → outcome e s base evs ers ≡ record { answer = record { refusal = r; place = i; events = 0; errors = 0 }; events = evs; errors = ers }
@@ -227,22 +97,3 @@ events-known all us is js e = joined-known (omega arith) (events-sized all is) (
 
 pub errors-known : (all us : List Tok) (is js : List Item) → joined (errorsOf all is) ≡ joined (errorsOf us js) → errorsOf all is ≡ errorsOf us js
 errors-known all us is js e = joined-known (omega arith) (errors-sized all is) (errors-sized us js) e
-
--- the same of an outcome: the words of as many events as it counts
-abbrev pub eventWordsOf : Outcome → List ℕ
-eventWordsOf o = take (eventSize * o .answer .events) (o .events)
-
-pub events-read : (e : Entry) (s : List ℕ) (base : ℕ) (evs ers : List ℕ) → QuietRun (outcome e s base evs ers)
-    → eventWordsOf (outcome e s base evs ers) ≡ joined (eventsOf (allTokens s base) (parse e (allTokens s base) .items))
-unfolding walked
-events-read e s base evs ers q =
-    let o = quiet-outcome e s base evs ers q in
-    ap eventWordsOf (passed-outcome e s base evs ers (o .passed)) ∙ events-in-buffer (allTokens s base) (parse e (allTokens s base) .items) evs (o .fits)
-
--- two quiet runs with the same words of events have the same events
-pub same-events : (e : Entry) (s t : List ℕ) (base to : ℕ) (evs ers evs′ ers′ : List ℕ) → QuietRun (outcome e s base evs ers) → QuietRun (outcome e t to evs′ ers′)
-    → eventWordsOf (outcome e s base evs ers) ≡ eventWordsOf (outcome e t to evs′ ers′)
-    → eventsOf (allTokens s base) (parse e (allTokens s base) .items) ≡ eventsOf (allTokens t to) (parse e (allTokens t to) .items)
-same-events e s t base to evs ers evs′ ers′ q r h =
-    events-known (allTokens s base) (allTokens t to) (parse e (allTokens s base) .items) (parse e (allTokens t to) .items)
-    (sym (events-read e s base evs ers q) ∙ h ∙ events-read e t to evs′ ers′ r)

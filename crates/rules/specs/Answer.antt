@@ -4,7 +4,7 @@ use mathlib.Core.Bool.{Bool, true, false}
 use mathlib.Core.List.{List, [], _∷_, _++_}
 use lib.ListN.{length, take, drop}
 use lib.Dec.{ltb}
-use Rattle.token.specs.declared.check.Checked.{Checked}
+use Rattle.token.specs.declared.checked.Checked.{Checked}
 use Rattle.token.specs.Tokens.{Tok, allTokens}
 use Rattle.token.specs.Check.{checked}
 use Rattle.rules.specs.declared.answer.Answer.{Answer}

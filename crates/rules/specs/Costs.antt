@@ -64,9 +64,9 @@ errors-append (stop n ∷ is) js = errors-append is js
 pub done-costs : (ts : List Tok) (e r : ℕ) → Costs ts e r (done ts)
 done-costs ts e r = omega arith
 
--- no rule steps back: with so little besides, no more tokens are left than there were
-pub not-back : {ts : List Tok} {e r : ℕ} {o : Out} → e ≤ 2 → Costs ts e r o → length (o .rest) ≤ length ts
-not-back h p = omega (arith, p .events)
+-- no rule gives tokens back: with so little besides, no more are left than there were
+pub not-back : {ts : List Tok} (e : ℕ) {r : ℕ} {o : Out} → e ≤ 2 → Costs ts e r o → length (o .rest) ≤ length ts
+not-back e h p = omega (arith, p .events)
 
 -- one rule and then another
 pub then-costs : {ts : List Tok} {e r : ℕ} {o : Out} (f : List Tok → Out) (e' r' : ℕ) → Costs ts e r o → ((us : List Tok) → Costs us e' r' (f us)) → Costs ts (e + e') (r + r') (o then f)

@@ -18,12 +18,5 @@ pub mod Words
 pub mod Answer
 pub mod TextWords
 pub mod Texts
-pub mod Grammar
-pub mod Quiet
-pub mod Premises
-pub mod RuledOut
 pub mod Costs
-pub mod LineCosts
 pub mod KeyCosts
-pub mod NestCosts
-pub mod Bounds

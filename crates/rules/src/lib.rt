@@ -5,7 +5,6 @@ pub mod document;
 pub mod event;
 pub mod inline_table;
 pub mod keys;
-pub mod ruled_out;
 pub mod scalar;
 pub mod skipping;
 pub mod theorems;

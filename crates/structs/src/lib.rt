@@ -1,16 +1,16 @@
 // The document entry over a lent list of token structs: they are copied into records, and the byte form parses these.
 pub mod theorems;
 
-use grammar::entries::parse_document;
+use entries::entries::parse_document;
 use rules::answer::Answer;
-use token::check::MAX_RECORDS;
+use token::checked::MAX_RECORDS;
 use token::writing::put_record;
 ghost use mathlib.Core.Path.{_≡_};
 ghost use mathlib.Core.List.{_++_};
 ghost use Prim.Native.Nat.{_+_, _*_, _≤_};
 ghost use lib.ListN.{length, take, drop};
 ghost use Rattle.rules.specs.Entries.{documentEntry};
-ghost use Rattle.grammar.specs.Answers.{Answers};
+ghost use Rattle.entries.specs.Answers.{Answers};
 ghost use Rattle.token.specs.Writing.{putAt};
 ghost use Rattle.structs.specs.Structs.{recordsOf};
 

@@ -1,8 +1,7 @@
 // Tables and array tables.
-use dots::dots::opt_whitespace;
-use endings::line_end::ws_comment_newline;
-use lines::skipping::ignore_to_newline;
-use names::names::key;
+use key_dots::dots::opt_whitespace;
+use keys::keys::key;
+use line_ends::line_end::ws_comment_newline;
 use output::emitting::Counts;
 use output::emitting::Walk;
 use output::emitting::emit;
@@ -13,6 +12,7 @@ use output::message::INVALID_TABLE;
 use output::message::UNCLOSED_ARRAY_TABLE;
 use output::message::UNCLOSED_TABLE;
 use rules::event::Event;
+use skip_lines::skipping::ignore_to_newline;
 use token::cursor::Cursor;
 use token::cursor::Sought;
 use token::cursor::Step;

@@ -8,9 +8,9 @@ use Rattle.token.specs.Tokens.{Tok, tok, allTokens}
 use Rattle.token.specs.Laid.{endOf}
 use Rattle.rules.specs.Limits.{maxDepth}
 use Rattle.rules.specs.Answer.{Outcome}
-use Rattle.rules.specs.Quiet.{QuietRun, NoMultiLineKey}
-use Rattle.rules.specs.Grammar.{FitsWithin, Fits}
-use Rattle.rules.specs.Premises.{NestedWithin, Regular, Ready, documentRun, textEnd, eventsLeft, EndToEnd, Nests, SameButForCuts}
+use Rattle.fitting.specs.Quiet.{QuietRun, NoMultiLineKey}
+use Rattle.fitting.specs.Grammar.{FitsWithin, Fits}
+use Rattle.fitting.specs.Premises.{NestedWithin, Regular, Ready, documentRun, textEnd, eventsLeft, EndToEnd, Nests, SameButForCuts}
 use Rattle.lex.specs.declared.Lexed.{Lexed}
 use Rattle.scan.specs.Lexer.{tokensOf, baseOf}
 use Rattle.lex.specs.Lexed.{LexOutcome, lexOutcome}

@@ -9,7 +9,7 @@ use Rattle.token.specs.declared.kind.Kind.{Kind}
 use Rattle.token.specs.declared.kind.Kind.the-variants.{Whitespace, Eof, LiteralString, BasicString, MlLiteralString, MlBasicString}
 use Rattle.token.specs.Kinds.{numberOf}
 use Rattle.token.specs.Tokens.{Tok, tok}
-use Rattle.rules.specs.Premises.{OneEofLast, onlyEof, beforeEof, NoAdjacentWhitespace, noToken, oneToken, notBoth, Regular}
+use Rattle.fitting.specs.Premises.{OneEofLast, onlyEof, beforeEof, NoAdjacentWhitespace, oneToken, notBoth, Regular}
 use Rattle.places.specs.Places.{startsWith}
 use Rattle.scan.specs.declared.start.Start.{Start}
 use Rattle.scan.specs.Bytes.{apostrophe, quotationMark}

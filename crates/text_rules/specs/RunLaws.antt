@@ -1,6 +1,6 @@
 -- Laws of the run over a text: refused as the lexer refused it, else the document entry's run on the records that the lexer left. Proved;
 -- nothing here needs to be believed.
-use mathlib.Core.Path.{_≡_, refl, ap, sym, subst, _∙_}
+use mathlib.Core.Path.{_≡_, ap, sym, subst, _∙_}
 use mathlib.Core.Bool.{Bool, true, false}
 use mathlib.Core.List.{List}
 use Prim.Native.Nat.{ℕ, _*_, _≤_}
@@ -8,13 +8,13 @@ use native.Mathlib.Omega.{arith}
 use lib.ListN.{length, take}
 use lib.Dec.{eqb}
 use borrow.Author.Tests.{eq-eqb, ne-eqb}
-use Rattle.token.specs.declared.check.Checked.{Checked}
+use Rattle.token.specs.declared.checked.Checked.{Checked}
 use Rattle.token.specs.Limits.{maxRecords}
 use Rattle.token.specs.Tokens.{allTokens}
 use Rattle.token.specs.Check.{checked}
 use Rattle.rules.specs.Answer.{Outcome}
-use Rattle.rules.specs.Quiet.{QuietRun}
-use Rattle.rules.specs.Premises.{Regular, documentRun}
+use Rattle.fitting.specs.Quiet.{QuietRun}
+use Rattle.fitting.specs.Premises.{Regular, documentRun}
 use Rattle.lex.specs.declared.Lexed.{Lexed}
 use Rattle.scan.specs.Lexer.{tokensOf}
 use Rattle.lex.specs.Lexed.{LexOutcome, lexOutcome}

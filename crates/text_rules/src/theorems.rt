@@ -1,20 +1,20 @@
 // Demand 3 said of a text: theorems, each the contract of a function. The theorems about token lists speak of records that lie in memory, so the
 // function lexes the text into the record buffer and cites them of what stands there.
+use fitting::theorems::quiet_brackets_nest;
+use fitting::theorems::quiet_events_determine_tokens;
+use fitting::theorems::quiet_events_end_to_end;
+use fitting::theorems::quiet_exactly_when_fits;
+use fitting::theorems::quiet_exactly_when_fits_within;
+use fitting::theorems::quiet_then_fits;
 use lex::lex;
-use rules::theorems::quiet_brackets_nest;
-use rules::theorems::quiet_events_determine_tokens;
-use rules::theorems::quiet_events_end_to_end;
-use rules::theorems::quiet_exactly_when_fits;
-use rules::theorems::quiet_exactly_when_fits_within;
-use rules::theorems::quiet_then_fits;
 ghost use mathlib.Core.Path.{_≡_};
 ghost use mathlib.Core.Logic.{_↔_};
 ghost use mathlib.Core.List.{[]};
 ghost use lib.ListN.{length};
 ghost use Rattle.rules.specs.Limits.{maxDepth};
-ghost use Rattle.rules.specs.Quiet.{QuietRun, NoMultiLineKey};
-ghost use Rattle.rules.specs.Grammar.{FitsWithin, Fits};
-ghost use Rattle.rules.specs.Premises.{NestedWithin, Regular, eventsLeft, EndToEnd, Nests, SameButForCuts};
+ghost use Rattle.fitting.specs.Quiet.{QuietRun, NoMultiLineKey};
+ghost use Rattle.fitting.specs.Grammar.{FitsWithin, Fits};
+ghost use Rattle.fitting.specs.Premises.{NestedWithin, Regular, eventsLeft, EndToEnd, Nests, SameButForCuts};
 ghost use Rattle.scan.specs.Lexer.{tokensOf};
 ghost use Rattle.text_rules.specs.TextOutcome.{textOutcome, textRun, TextDetermined};
 ghost use Rattle.text_rules.specs.TextPremises.{TextReady};

@@ -16,10 +16,10 @@ use Rattle.token.specs.CursorLaws.{all-length}
 use Rattle.rules.specs.Limits.{maxDepth}
 use Rattle.rules.specs.declared.answer.Answer.{Answer}
 use Rattle.rules.specs.Answer.{eventSize, Outcome}
-use Rattle.rules.specs.Grammar.{FitsWithin}
-use Rattle.rules.specs.Premises.{documentRun}
-use Rattle.quiet.specs.declared.verdict.Verdict.{Verdict}
-use Rattle.quiet.specs.Verdicts.{Sound, Roomy, Judges, Judged, refusalOf, placeOf}
+use Rattle.fitting.specs.Grammar.{FitsWithin}
+use Rattle.fitting.specs.Premises.{documentRun}
+use Rattle.verdicts.specs.declared.verdict.Verdict.{Verdict}
+use Rattle.verdicts.specs.Verdicts.{Sound, Roomy, Judges, Judged, refusalOf, placeOf}
 use Rattle.lex.specs.declared.Lexed.{Lexed}
 use Rattle.scan.specs.Lexer.{tokensOf}
 use Rattle.lex.specs.Lexed.{LexOutcome, lexOutcome}

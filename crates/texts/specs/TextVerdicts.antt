@@ -9,9 +9,9 @@ use lib.Dec.{eqb, ltb}
 use Rattle.rules.specs.Limits.{maxDepth}
 use Rattle.rules.specs.declared.answer.Answer.{Answer}
 use Rattle.rules.specs.Answer.{eventSize}
-use Rattle.rules.specs.Grammar.{FitsWithin}
-use Rattle.quiet.specs.declared.verdict.Verdict.{Verdict}
-use Rattle.quiet.specs.Verdicts.{refusalOf, placeOf}
+use Rattle.fitting.specs.Grammar.{FitsWithin}
+use Rattle.verdicts.specs.declared.verdict.Verdict.{Verdict}
+use Rattle.verdicts.specs.Verdicts.{refusalOf, placeOf}
 use Rattle.lex.specs.declared.Lexed.{Lexed}
 use Rattle.scan.specs.Lexer.{tokensOf}
 use Rattle.lex.specs.Lexed.{LexOutcome, lexOutcome}

@@ -1,8 +1,8 @@
 // The joined entry: a text and three lent buffers in; the answer out, and the buffers filled.
-use grammar::entries::read_document;
+use entries::entries::read_document;
 use lex::lex;
 use text_rules::answer::TextAnswer;
-use token::check::MAX_RECORDS;
+use token::checked::MAX_RECORDS;
 ghost use mathlib.Core.Path.{_≡_};
 ghost use Rattle.text_rules.specs.TextOutcome.{TextAnswers};
 

@@ -1,6 +1,6 @@
 // What the contract of `text_fits` amounts to, as contracts of functions.
 use lex::lex;
-use quiet::theorems::verdicts_judge;
+use verdicts::theorems::verdicts_judge;
 ghost use Rattle.texts.specs.TextVerdicts.{DeterminedTextVerdict, TextVerdictsJudge};
 
 // Two answers of `text_fits`, each with the buffers that it leaves, that both meet its contract for the same input are equal.

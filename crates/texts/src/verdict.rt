@@ -1,8 +1,8 @@
 // The yes of a text: whether it is good to act on.
 use lex::lex;
-use quiet::judging::judge;
-use quiet::verdict::Verdict;
-use token::check::MAX_RECORDS;
+use token::checked::MAX_RECORDS;
+use verdicts::judging::judge;
+use verdicts::verdict::Verdict;
 ghost use mathlib.Core.Path.{_≡_};
 ghost use mathlib.Core.Bool.{false};
 ghost use Rattle.texts.specs.TextVerdicts.{JudgesText};

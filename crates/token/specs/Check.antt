@@ -4,7 +4,7 @@ use mathlib.Core.List.{List}
 use Prim.Native.Nat.{ℕ, zero, suc, _+_, _%_}
 use lib.ListN.{length}
 use lib.Dec.{eqb, ltb}
-use Rattle.token.specs.declared.check.Checked.{Checked}
+use Rattle.token.specs.declared.checked.Checked.{Checked}
 use Rattle.token.specs.Limits.{maxRecords, maxEnd}
 use Rattle.token.specs.Kinds.{kindOf, widthOf, widthFits}
 use Rattle.token.specs.Records.{count, lengthAt, kindNumberAt}

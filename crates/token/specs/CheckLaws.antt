@@ -9,11 +9,10 @@ use native.Mathlib.Nat.{add-zero}
 use lib.ListN.{length}
 use lib.Dec.{eqb, ltb, leb}
 use borrow.Author.Tests.{ltb-true, ltb-false, leb-true, leb-false, eqb-true, eq-eqb, le-ltb}
-use Rattle.token.specs.declared.kind.Width.{Width}
-use Rattle.token.specs.declared.check.Checked.{Checked}
+use Rattle.token.specs.declared.checked.Checked.{Checked}
 use Rattle.token.specs.declared.cursor.Cursor.{Cursor}
 use Rattle.token.specs.Limits.{maxRecords, maxEnd}
-use Rattle.token.specs.Kinds.{kindOf, widthOf, widthFits}
+use Rattle.token.specs.Kinds.{Width, oneByte, noByte, someBytes, kindOf, widthOf, widthFits}
 use Rattle.token.specs.Records.{count, lengthAt, kindNumberAt, kindAt, startAt}
 use Rattle.token.specs.Tokens.{tokensFrom, allTokens, Good, At}
 use Rattle.token.specs.Check.{recordRefusal, refusedAt, checkedFrom, passed, checked}
@@ -66,9 +65,9 @@ pub record-passed : (k n e : ℕ) → recordRefusal k n e ≡ 0 → (widthFits (
 record-passed k n e z = by-low (ltb k 1) (ltb 16 k) (widthFits (widthOf (kindOf k)) n) e z
 
 spans : (w : Width) (p n : ℕ) → widthFits w n ≡ true → Spans w p (p + n)
-spans Width.One p n e = omega (arith, eqb-true n 1 e)
-spans Width.Zero p n e = omega (arith, eqb-true n 0 e)
-spans Width.Some p n e = omega (arith, leb-true 1 n e)
+spans oneByte p n e = omega (arith, eqb-true n 1 e)
+spans noByte p n e = omega (arith, eqb-true n 0 e)
+spans someBytes p n e = omega (arith, leb-true 1 n e)
 
 -- Checked.Passed is no refusal
 abbrev IsPassed : Checked → Type 0
@@ -163,7 +162,7 @@ passed-is Checked.Passed e = refl
 passed-is (Checked.Refused r i) e = absurd (false≢true e)
 
 -- the widths of the kinds, by their numbers
-pub width-by : (k : ℕ) → 0 < k → widthOf (kindOf k) ≡ cond (ltb k 8) Width.One (cond (ltb k 16) Width.Some Width.Zero)
+pub width-by : (k : ℕ) → 0 < k → widthOf (kindOf k) ≡ cond (ltb k 8) oneByte (cond (ltb k 16) someBytes noByte)
 unfolding kindOf
 width-by zero h = absurd (omega (arith, h))
 width-by (suc zero) h = refl

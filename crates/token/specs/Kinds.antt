@@ -4,7 +4,6 @@ use Prim.Native.Nat.{ℕ, zero, suc}
 use lib.Dec.{eqb, leb}
 use Rattle.token.specs.declared.kind.Kind.{Kind}
 use Rattle.token.specs.declared.kind.Kind.the-variants.{Dot, Equals, Comma, LeftSquareBracket, RightSquareBracket, LeftCurlyBracket, RightCurlyBracket, Whitespace, Comment, Newline, LiteralString, BasicString, MlLiteralString, MlBasicString, Atom, Eof}
-use Rattle.token.specs.declared.kind.Width.{Width}
 use Rattle.token.specs.declared.kind.InSearch.{InSearch}
 
 -- the number of a kind
@@ -46,29 +45,33 @@ kindOf (suc (suc (suc (suc (suc (suc (suc (suc (suc (suc (suc (suc (suc (suc zer
 kindOf (suc (suc (suc (suc (suc (suc (suc (suc (suc (suc (suc (suc (suc (suc (suc zero))))))))))))))) = Atom
 kindOf (suc (suc (suc (suc (suc (suc (suc (suc (suc (suc (suc (suc (suc (suc (suc (suc n)))))))))))))))) = Eof
 
--- how long a token of a kind may be: kinds 1 to 7 have length 1, Eof 0, the others at least 1
+-- how long a token may be: one byte, none, or at least one
+pub data Width : Type 0 where
+  oneByte noByte someBytes : Width
+
+-- of a kind: kinds 1 to 7 have length 1, Eof 0, the others at least 1
 abbrev pub widthOf : Kind → Width
-widthOf Dot = Width.One
-widthOf Equals = Width.One
-widthOf Comma = Width.One
-widthOf LeftSquareBracket = Width.One
-widthOf RightSquareBracket = Width.One
-widthOf LeftCurlyBracket = Width.One
-widthOf RightCurlyBracket = Width.One
-widthOf Whitespace = Width.Some
-widthOf Comment = Width.Some
-widthOf Newline = Width.Some
-widthOf LiteralString = Width.Some
-widthOf BasicString = Width.Some
-widthOf MlLiteralString = Width.Some
-widthOf MlBasicString = Width.Some
-widthOf Atom = Width.Some
-widthOf Eof = Width.Zero
+widthOf Dot = oneByte
+widthOf Equals = oneByte
+widthOf Comma = oneByte
+widthOf LeftSquareBracket = oneByte
+widthOf RightSquareBracket = oneByte
+widthOf LeftCurlyBracket = oneByte
+widthOf RightCurlyBracket = oneByte
+widthOf Whitespace = someBytes
+widthOf Comment = someBytes
+widthOf Newline = someBytes
+widthOf LiteralString = someBytes
+widthOf BasicString = someBytes
+widthOf MlLiteralString = someBytes
+widthOf MlBasicString = someBytes
+widthOf Atom = someBytes
+widthOf Eof = noByte
 
 abbrev pub widthFits : Width → ℕ → Bool
-widthFits Width.One n = eqb n 1
-widthFits Width.Zero n = eqb n 0
-widthFits Width.Some n = leb 1 n
+widthFits oneByte n = eqb n 1
+widthFits noByte n = eqb n 0
+widthFits someBytes n = leb 1 n
 
 -- what a kind is to a search backward
 abbrev pub inSearch : Kind → InSearch

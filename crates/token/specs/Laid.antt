@@ -3,15 +3,14 @@ use mathlib.Core.Path.{_≡_}
 use mathlib.Core.List.{List, [], _∷_}
 use Prim.Native.Nat.{ℕ, suc, _<_}
 use Rattle.token.specs.declared.kind.Kind.{Kind}
-use Rattle.token.specs.declared.kind.Width.{Width}
-use Rattle.token.specs.Kinds.{widthOf}
+use Rattle.token.specs.Kinds.{Width, oneByte, noByte, someBytes, widthOf}
 use Rattle.token.specs.Tokens.{Tok, tok}
 
 -- from a to b is as long as the width says
 abbrev pub Spans : Width → ℕ → ℕ → Type 0
-Spans Width.One a b = b ≡ suc a
-Spans Width.Zero a b = b ≡ a
-Spans Width.Some a b = a < b
+Spans oneByte a b = b ≡ suc a
+Spans noByte a b = b ≡ a
+Spans someBytes a b = a < b
 
 -- the tokens lie end to end from p
 pub data Laid : ℕ → List Tok → Type 0 where

@@ -7,10 +7,9 @@ use native.Mathlib.Omega.{arith}
 use lib.ListN.{length}
 use borrow.Author.Tests.{le-ltb, eq-eqb, le-leb}
 use Rattle.token.specs.declared.kind.Kind.{Kind}
-use Rattle.token.specs.declared.kind.Width.{Width}
-use Rattle.token.specs.declared.check.Checked.{Checked}
+use Rattle.token.specs.declared.checked.Checked.{Checked}
 use Rattle.token.specs.Limits.{maxRecords, maxEnd}
-use Rattle.token.specs.Kinds.{numberOf, kindOf, widthOf, widthFits}
+use Rattle.token.specs.Kinds.{Width, oneByte, noByte, someBytes, numberOf, kindOf, widthOf, widthFits}
 use Rattle.token.specs.KindLaws.{kind-back, number-range}
 use Rattle.token.specs.Records.{count, lengthAt, kindNumberAt, kindAt}
 use Rattle.token.specs.Tokens.{Tok, tok, tokensFrom, allTokens}
@@ -23,9 +22,9 @@ use Rattle.token.specs.ReadingLaws.{first-length, first-kind, length-beh
 
 -- no token ends before it starts
 spans-up : (w : Width) (p e : ℕ) → Spans w p e → p ≤ e
-spans-up Width.One p e h = omega (arith, h)
-spans-up Width.Zero p e h = omega (arith, h)
-spans-up Width.Some p e h = omega (arith, h)
+spans-up oneByte p e h = omega (arith, h)
+spans-up noByte p e h = omega (arith, h)
+spans-up someBytes p e h = omega (arith, h)
 
 pub end-up : {p : ℕ} {ts : List Tok} → Laid p ts → p ≤ endOf p ts
 end-up laidNone = omega arith
@@ -58,9 +57,9 @@ module _ (k : Kind) (p e : ℕ) (s : List ℕ) (h : Spans (widthOf k) p e) (l : 
       ∙ ap (λ (us : List Tok). tok k p e ∷ us) (tokens-behind (e - p) (numberOf k) s n 0 e)
 
   fits-width : (w : Width) → Spans w p e → widthFits w (e - p) ≡ true
-  fits-width Width.One x = eq-eqb (e - p) 1 (omega (arith, x))
-  fits-width Width.Zero x = eq-eqb (e - p) 0 (omega (arith, x))
-  fits-width Width.Some x = le-leb 1 (e - p) (omega (arith, x))
+  fits-width oneByte x = eq-eqb (e - p) 1 (omega (arith, x))
+  fits-width noByte x = eq-eqb (e - p) 0 (omega (arith, x))
+  fits-width someBytes x = le-leb 1 (e - p) (omega (arith, x))
 
   -- and passes
   record-passes : recordRefusal (numberOf k) (e - p) e ≡ 0

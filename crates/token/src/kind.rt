@@ -21,13 +21,6 @@ pub enum Kind {
     Eof,
 }
 
-// How long a token of a kind may be.
-pub enum Width {
-    One,
-    Zero,
-    Some,
-}
-
 // What a kind is to a search backward.
 pub enum InSearch {
     Whitespace,

@@ -1,5 +1,5 @@
 // Values.
-use dots::dots::nothing_left;
+use key_dots::dots::nothing_left;
 use nest::nest::NestWalk;
 use nest::nest::on_array_open;
 use nest::nest::on_inline_table_open;

@@ -7,10 +7,10 @@ use crate::comparing::same_answer;
 use crate::frames::Case;
 use crate::frames::first_filled;
 use crate::frames::whole_words;
-use grammar::entries::parse_document;
-use grammar::entries::parse_key;
-use grammar::entries::parse_simple_key;
-use grammar::entries::parse_value;
+use entries::entries::parse_document;
+use entries::entries::parse_key;
+use entries::entries::parse_simple_key;
+use entries::entries::parse_value;
 use rules::answer::Answer;
 
 // The entries are numbered as ENTRIES of oracle/src/walk.rs has them.

@@ -4,8 +4,7 @@ use mathlib.Core.Path.{sym, ap, _∙_}
 use native.Mathlib.Omega.{arith}
 use borrow.Author.Tests.{lt-ltb, le-ltb}
 use Prim.Native.Nat.{_<_, _≤_}
-use Rattle.token.specs.declared.kind.Width.{Width}
-use Rattle.token.specs.Kinds.{widthFits}
+use Rattle.token.specs.Kinds.{Width, widthFits}
 use Rattle.token.specs.CheckLaws.{width-by, fits-by}
 use Rattle.checks.proofs.check.record_fits.Statement.{statement}
 use Rattle.checks.proofs.check.record_fits.Tie as tie

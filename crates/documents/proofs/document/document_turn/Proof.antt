@@ -14,7 +14,7 @@ use Rattle.output.specs.Pour.{bufs}
 use Rattle.output.specs.WalkLaws.{told, told-done, rule-end, first-item, run-done, goes-by}
 use Rattle.nest.specs.NestedLaws.{nested-goes, nested-past}
 use Rattle.documents.proofs.DocumentLaws.{document-at, document-dot, document-equals, stepped-as}
-use Rattle.documents.proofs.KeyLaws.{Met, meet, any-of, begun-key, begun-equals, begun-dot}
+use Rattle.documents.proofs.KeyTurnLaws.{Met, meet, any-of, begun-key, begun-equals, begun-dot}
 use borrow.Author.Needs.{needs}
 use Rattle.documents.proofs.document.document_turn.Statement.{statement}
 use Rattle.documents.proofs.document.document_turn.Tie as tie

@@ -4,7 +4,7 @@ use native.Mathlib.Omega.{arith}
 use mathlib.Core.Path.{_≡_, sym, _∙_}
 use Prim.Native.Nat.{_/_, _*_}
 use lib.ListN.{length}
-use Rattle.quiet.proofs.KeyLaws.{multi-line-loud, none-beyond, two-words-only}
+use Rattle.quiet.proofs.MultiLineKeyLaws.{multi-line-loud, none-beyond, two-words-only}
 use borrow.Author.Needs.{needs}
 use Rattle.quiet.proofs.keys.has_no_multi_line_key.Statement.{statement}
 use Rattle.quiet.proofs.keys.has_no_multi_line_key.Tie as tie

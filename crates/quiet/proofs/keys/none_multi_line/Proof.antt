@@ -6,7 +6,7 @@ use mathlib.Core.Path.{subst, _≡_, sym, _∙_}
 use Prim.Native.Nat.{ℕ}
 use Rattle.quiet.specs.Runs.{NoneMultiLine}
 use Rattle.quiet.proofs.Decided.{decided-yes}
-use Rattle.quiet.proofs.KeyLaws.{none-multi-line-zero, none-multi-line-more, multi-line-loud}
+use Rattle.quiet.proofs.MultiLineKeyLaws.{none-multi-line-zero, none-multi-line-more, multi-line-loud}
 use borrow.Author.Needs.{needs}
 use Rattle.quiet.proofs.keys.none_multi_line.Statement.{statement}
 use Rattle.quiet.proofs.keys.none_multi_line.Tie as tie

@@ -12,7 +12,7 @@ use Rattle.rules.specs.Out.{done, _▹_}
 use Rattle.rules.specs.Messages as message
 use Rattle.rules.specs.Expected as expected
 use Rattle.rules.specs.Value.{value}
-use Rattle.dots.specs.KeyWalks.{nothingLeft}
+use Rattle.key_dots.specs.KeyWalks.{nothingLeft}
 use Rattle.output.specs.WalkLaws.{at-end}
 use Rattle.nest.specs.NestedLaws.{nested-goes, nested-same}
 use Rattle.values.proofs.ValueLaws.{value-at, value-starts, finish-nested}

@@ -1,0 +1,2 @@
+// One turn in an array, proved equal to its rule.
+pub mod array;

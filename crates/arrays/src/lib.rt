@@ -1,3 +1,0 @@
-// One turn in an array, proved equal to its rule.
-pub mod array;
-pub mod turn;

@@ -1,0 +1,5 @@
+pub mod NotBack
+pub mod TurnsLaws
+pub mod TurnsEnough
+pub mod DocumentTurns
+pub mod CountLaws

@@ -1,0 +1,4 @@
+pub mod LineCosts
+pub mod ScalarCosts
+pub mod NestCosts
+pub mod Bounds

@@ -1,0 +1,31 @@
+-- What is left behind the walk, and the answer, whatever the entry.
+-- Made by ./proofs from Proof.tmpl: change that.
+use Rattle.entries.proofs.EntryLaws.{entry-answers}
+use borrow.Author.Needs.{needs}
+use Rattle.entries.proofs.entries.answered.Statement.{statement}
+use Rattle.entries.proofs.entries.answered.Tie as tie
+
+closing-requires : tie.Need-closing-requires
+closing-requires c κs = (c .before .before .before .before .before .pre)
+
+answer-of-requires : tie.Need-answer-of-requires
+answer-of-requires c κs = search needs
+
+same-length : tie.Need-same-length
+same-length c = search needs
+
+same-length-2 : tie.Need-same-length-2
+same-length-2 c = search needs
+
+returns : tie.Need-returns
+returns c = λ entry base events errors x. entry-answers x ((c .before .before .before .before .before .closing) .ensures _ _ _ (x .walk)) ((c .before .before .before .before .before .closing) .kept .1 .1 .0) ((c .before .before .before .before .before .closing) .kept .1 .1 .1 .0) _ ((c .answer-of) .ensures)
+
+pub answered-spec : {M : Type 1} → statement M
+answered-spec =
+    tie.close
+    (tie.spec
+    closing-requires
+    answer-of-requires
+    same-length
+    same-length-2
+    returns)

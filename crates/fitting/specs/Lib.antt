@@ -1,0 +1,4 @@
+pub mod Grammar
+pub mod Quiet
+pub mod Premises
+pub mod RuledOut

@@ -1,0 +1,154 @@
+// What an inline table is made of: its keys, its last comma, and the reports of what it does not want.
+use crate::actions::encoding_at;
+use crate::actions::wanted_in;
+use key_dots::dots::opt_dot_keys;
+use output::emitting::Counts;
+use output::emitting::Walk;
+use output::emitting::emit;
+use output::emitting::empty_key;
+use output::emitting::report;
+use output::emitting::report_before;
+use output::expected::NOTHING;
+use output::message::TRAILING_COMMA;
+use rules::event::Event;
+use rules::inline_table::Progress;
+use rules::inline_table::State;
+use token::cursor::Cursor;
+use token::cursor::Sought;
+use token::cursor::Token;
+use token::span::Span;
+ghost use mathlib.Core.Path.{_≡_};
+ghost use mathlib.Core.List.{List, _∷_};
+ghost use Prim.Native.Nat.{ℕ};
+ghost use Rattle.token.specs.Tokens.{Tok, tok, Good, tokensAt, allTokens};
+ghost use Rattle.rules.specs.Out.{span, before, report, _▹_};
+ghost use Rattle.rules.specs.Keys.{optDotKeys};
+ghost use Rattle.rules.specs.InlineTable.{wanted, refused, trailing};
+ghost use Rattle.output.specs.Pour.{bufs, put, pour};
+ghost use Rattle.output.specs.Walks.{Goes};
+ghost use Rattle.key_dots.specs.KeyWalks.{ReadDot};
+ghost use Rattle.inline_parts.specs.Parts.{blamed, keyItem, emptyKey};
+
+// The report of what the state wants, before t.
+pub fn missing(
+    n: Counts,
+    message: u32,
+    p: Progress,
+    head: Token,
+    t: Token,
+    errors: &mut [u32],
+) -> Counts
+    ensures { λ r. ⌜ ((all : List Tok) (events : List ℕ) → bufs events (now (errors .exit)) r ≡ put all (report message (wanted (p .state)) (span (head .start) (head .end)) (before (t .start) (t .end))) (bufs events (now (errors .entry)) n)) ⌝ }
+{
+    let state = p.state;
+    let x = wanted_in(state);
+    report_before(errors, n, message, x, head, t)
+}
+
+// A token that the state does not want: a report, and an error event.
+pub fn refuse(
+    n: Counts,
+    message: u32,
+    p: Progress,
+    head: Token,
+    t: Token,
+    events: &mut [u32],
+    errors: &mut [u32],
+) -> Counts
+    ensures { λ r. ⌜ ((all : List Tok) → bufs (now (events .exit)) (now (errors .exit)) r ≡ pour all (refused message (p .state) (span (head .start) (head .end)) (t .start) (t .end)) (bufs (now (events .entry)) (now (errors .entry)) n)) ⌝ }
+{
+    let m = missing(n, message, p, head, t, errors);
+    emit(events, m, Event::Error, t.start, t.end)
+}
+
+// A `}` where something was read and no comma is wanted: the nearest earlier comma is to blame.
+pub fn trailing_comma(
+    s: &[u8],
+    c: Cursor,
+    n: Counts,
+    p: Progress,
+    head: Token,
+    t: Token,
+    errors: &mut [u32],
+) -> Counts
+    requires { ⌜ Good (now s) c ⌝ }
+    ensures { λ r. ⌜ ((base : ℕ) (events : List ℕ) → c .base ≡ base → bufs events (now (errors .exit)) r ≡ pour (allTokens (now (s .entry)) base) (trailing (p .empty) (p .state) (span (head .start) (head .end)) (t .start) (t .end) (tokensAt (now (s .entry)) c)) (bufs events (now (errors .entry)) n)) ⌝ }
+{
+    let empty = p.empty;
+    if empty {
+        return n;
+    }
+    let state = p.state;
+    match state {
+        State::NeedsKey => blame_comma(s, c, n, head, t, errors),
+        State::NeedsEquals => blame_comma(s, c, n, head, t, errors),
+        State::NeedsValue => blame_comma(s, c, n, head, t, errors),
+        State::NeedsComma => n,
+    }
+}
+
+fn blame_comma(s: &[u8], c: Cursor, n: Counts, head: Token, t: Token, errors: &mut [u32]) -> Counts
+    requires { ⌜ Good (now s) c ⌝ }
+    ensures { λ r. ⌜ ((base : ℕ) (events : List ℕ) → c .base ≡ base → bufs events (now (errors .exit)) r ≡ pour (allTokens (now (s .entry)) base) (blamed (span (head .start) (head .end)) (t .start) (t .end) (tokensAt (now (s .entry)) c)) (bufs events (now (errors .entry)) n)) ⌝ }
+{
+    let comma = c.nearest_before(
+        s,
+        Sought::Comma,
+        Span {
+            start: t.start,
+            end: t.start,
+        },
+    );
+    report(
+        errors,
+        n,
+        TRAILING_COMMA,
+        NOTHING,
+        head.start,
+        head.end,
+        comma.start,
+        comma.end,
+    )
+}
+
+// The key that begins with t.
+pub fn table_key(
+    s: &[u8],
+    t: Token,
+    c: Cursor,
+    m: Counts,
+    events: &mut [u32],
+    errors: &mut [u32],
+) -> Walk
+    requires { ⌜ Good (now s) c ⌝ }
+    ensures { λ r. ⌜ Goes (now (s .entry)) (keyItem (t .kind) (t .start) (t .end) ▹ optDotKeys (tokensAt (now (s .entry)) c)) c (bufs (now (events .entry)) (now (errors .entry)) m) (now (events .exit)) (now (errors .exit)) r ⌝ }
+{
+    let k = t.kind;
+    let e = encoding_at(k);
+    let n = emit(events, m, Event::SimpleKey(e), t.start, t.end);
+    let w = opt_dot_keys(s, c, n, events, errors);
+    let cur = w.cur;
+    let end = w.n;
+    Walk { cur, n: end }
+}
+
+// The key that begins with the dot t, which was read just before c: its first part is empty.
+pub fn table_dot(
+    s: &[u8],
+    t: Token,
+    c: Cursor,
+    m: Counts,
+    events: &mut [u32],
+    errors: &mut [u32],
+) -> Walk
+    requires { ⌜ Good (now s) c ⌝ }
+    requires { ⌜ ReadDot (now s) t c ⌝ }
+    ensures { λ r. ⌜ Goes (now (s .entry)) (emptyKey (t .start) ▹ optDotKeys (tok (t .kind) (t .start) (t .end) ∷ tokensAt (now (s .entry)) c)) c (bufs (now (events .entry)) (now (errors .entry)) m) (now (events .exit)) (now (errors .exit)) r ⌝ }
+{
+    let n = empty_key(events, m, t.start);
+    let back = c.back(s);
+    let w = opt_dot_keys(s, back, n, events, errors);
+    let cur = w.cur;
+    let end = w.n;
+    Walk { cur, n: end }
+}

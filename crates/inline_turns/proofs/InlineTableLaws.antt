@@ -1,0 +1,89 @@
+-- Turns in inline tables, a token at a time. Assumes nothing.
+use mathlib.Core.Path.{_≡_, refl, sym, subst, _∙_}
+use mathlib.Core.List.{List}
+use Prim.Native.Nat.{ℕ}
+use Rattle.token.specs.Tokens.{Tok, tokensAt, Took}
+use Rattle.token.specs.declared.kind.Kind.{Kind}
+use Rattle.token.specs.declared.kind.Kind.the-variants.{Dot, Equals, Comma, LeftSquareBracket, RightSquareBracket, LeftCurlyBracket, RightCurlyBracket, Whitespace, Comment, Newline, LiteralString, BasicString, MlLiteralString, MlBasicString, Atom, Eof}
+use Rattle.token.specs.declared.cursor.Token.{Token}
+use Rattle.token.specs.declared.cursor.Cursor.{Cursor}
+use Rattle.rules.specs.declared.inline_table.Action.{Action}
+use Rattle.rules.specs.declared.inline_table.Action.the-variants as A
+use Rattle.rules.specs.declared.inline_table.State.{State}
+use Rattle.rules.specs.declared.inline_table.Progress.{Progress}
+use Rattle.rules.specs.Out.{Place, Out}
+use Rattle.rules.specs.Scalar.{startingOf}
+use Rattle.rules.specs.Array.{Nest}
+use Rattle.rules.specs.InlineTable.{actionOf, inlineTableStep, inlineTableTurn}
+use Rattle.output.specs.Pour.{Bufs}
+use Rattle.output.specs.Walks.{run}
+use Rattle.output.specs.WalkLaws.{at-token}
+use Rattle.scalars.specs.ScalarWalks.{Starts}
+use Rattle.array_parts.specs.Turning.{Turned}
+use Rattle.inline_turns.specs.declared.table_turn.TableTurn.{TableTurn}
+
+-- inline tables: the token that was read, by the action of the state at its kind
+pub table-at : (s : List ℕ) (c d : Cursor) (t : Token) → Took s c t d → (x y : Action) (p : Progress) → x ≡ actionOf (p .state) (t .kind) → x ≡ y → (all : List Tok) (o : Bufs) (head : Place) (nest : Nest) (loop : Progress → List Tok → Out)
+    → run all (inlineTableTurn head nest loop p (tokensAt s c)) o ≡ run all (inlineTableStep y (t .kind) head nest loop (p .state) (p .empty) (t .start) (t .end) (tokensAt s d)) o
+table-at s c d t k x y p e q all o head nest loop =
+    at-token all o s c d t (inlineTableTurn head nest loop p) (actionOf (p .state)) (λ z. inlineTableStep z (t .kind) head nest loop (p .state) (p .empty) (t .start) (t .end) (tokensAt s d)) x y k refl e q
+
+-- what an action tells of the kind: a scalar starts one, a dot is one
+abbrev Tells : Action → Kind → Type 0
+Tells A.Whitespace k = Unit {0}
+Tells A.Comment k = Unit {0}
+Tells A.Newline k = Unit {0}
+Tells A.Eof k = Unit {0}
+Tells A.ValueSep k = Unit {0}
+Tells A.ExtraComma k = Unit {0}
+Tells A.EmptyKey k = Unit {0}
+Tells A.KeyValSep k = Unit {0}
+Tells A.ExtraAssignment k = Unit {0}
+Tells A.KeylessArray k = Unit {0}
+Tells A.KeylessTable k = Unit {0}
+Tells A.UnassignedArray k = Unit {0}
+Tells A.UnassignedTable k = Unit {0}
+Tells A.UnassignedScalar k = Starts (startingOf k)
+Tells A.Array k = Unit {0}
+Tells A.Table k = Unit {0}
+Tells A.Scalar k = Starts (startingOf k)
+Tells A.Close k = Unit {0}
+Tells A.InvalidElement k = Unit {0}
+Tells A.ArrayWithoutOpen k = Unit {0}
+Tells A.Key k = Unit {0}
+Tells A.DotKey k = k ≡ Dot
+Tells A.KeyWithoutComma k = Unit {0}
+Tells A.DotKeyWithoutComma k = k ≡ Dot
+
+-- each column of the table, at the four states
+column : (k : Kind) → Tells (actionOf State.NeedsKey k) k × Tells (actionOf State.NeedsEquals k) k × Tells (actionOf State.NeedsValue k) k × Tells (actionOf State.NeedsComma k) k
+column Dot = (refl, tt, tt, refl)
+column Equals = (tt, tt, tt, tt)
+column Comma = (tt, tt, tt, tt)
+column LeftSquareBracket = (tt, tt, tt, tt)
+column RightSquareBracket = (tt, tt, tt, tt)
+column LeftCurlyBracket = (tt, tt, tt, tt)
+column RightCurlyBracket = (tt, tt, tt, tt)
+column Whitespace = (tt, tt, tt, tt)
+column Comment = (tt, tt, tt, tt)
+column Newline = (tt, tt, tt, tt)
+column LiteralString = (tt, tt, tt, tt)
+column BasicString = (tt, tt, tt, tt)
+column MlLiteralString = (tt, tt, tt, tt)
+column MlBasicString = (tt, tt, tt, tt)
+column Atom = (tt, tt, tt, tt)
+column Eof = (tt, tt, tt, tt)
+
+tells : (st : State) (k : Kind) → Tells (actionOf st k) k
+tells State.NeedsKey k = column k .0
+tells State.NeedsEquals k = column k .1
+tells State.NeedsValue k = column k .2
+tells State.NeedsComma k = column k .3
+
+pub action-tells : (st : State) (k : Kind) (x y : Action) → x ≡ actionOf st k → x ≡ y → Tells y k
+action-tells st k x y p q = subst (λ (z : Action). Tells z k) (sym p ∙ q) (tells st k)
+
+-- an answer that is made by a function
+module _ {s : List ℕ} {c : Cursor} {o : Bufs} {a b : List ℕ} where
+  pub table-as : {rule : Nest → (Progress → List Tok → Out) → Out} {r r' : TableTurn} → r ≡ r' → Turned Progress s rule c o a b (r' .cur) (r' .n) (r' .progress) (r' .next) → Turned Progress s rule c o a b (r .cur) (r .n) (r .progress) (r .next)
+  table-as {rule} e x = subst (λ (z : TableTurn). Turned Progress s rule c o a b (z .cur) (z .n) (z .progress) (z .next)) (sym e) x

@@ -1,0 +1,193 @@
+// Inline tables: one turn.
+use crate::table_turn::TableTurn;
+use crate::table_turn::again;
+use crate::table_turn::opening;
+use crate::table_turn::over;
+use crate::table_turn::read;
+use array_parts::turn::Next;
+use array_parts::turn::unclosed;
+use inline_parts::actions::action_at;
+use inline_parts::parts::missing;
+use inline_parts::parts::refuse;
+use inline_parts::parts::table_dot;
+use inline_parts::parts::table_key;
+use inline_parts::parts::trailing_comma;
+use output::emitting::Counts;
+use output::emitting::Walk;
+use output::emitting::emit;
+use output::emitting::empty_key;
+use output::emitting::report_at;
+use output::emitting::report_before;
+use output::expected::CLOSE_CURLY;
+use output::expected::NOTHING;
+use output::expected::OPEN_SQUARE;
+use output::message::COMMENT_IN_INLINE_TABLE;
+use output::message::EXTRA_ASSIGNMENT;
+use output::message::EXTRA_COMMA_IN_INLINE_TABLE;
+use output::message::INVALID_INLINE_TABLE_ELEMENT;
+use output::message::MISSING_ARRAY_OPENING;
+use output::message::MISSING_ASSIGNMENT;
+use output::message::MISSING_COMMA_IN_INLINE_TABLE;
+use output::message::MISSING_KEY_IN_INLINE_TABLE;
+use output::message::NEWLINE_IN_INLINE_TABLE;
+use output::message::UNCLOSED_INLINE_TABLE;
+use rules::event::Event;
+use rules::inline_table::Action;
+use rules::inline_table::Progress;
+use rules::inline_table::State;
+use rules::skipping::Bracket;
+use scalars::scalar::on_scalar;
+use skip_brackets::brackets::ignore_to_value_close;
+use skip_lines::skipping::on_comment;
+use token::cursor::Cursor;
+use token::cursor::Step;
+use token::cursor::Token;
+ghost use mathlib.Core.Path.{_≡_};
+ghost use Rattle.token.specs.Tokens.{Good, tokensAt};
+ghost use Rattle.rules.specs.Out.{span};
+ghost use Rattle.rules.specs.InlineTable.{inlineTableTurn};
+ghost use Rattle.output.specs.Pour.{bufs};
+ghost use Rattle.array_parts.specs.Turning.{Turned};
+ghost use Rattle.inline_parts.specs.Parts.{actionTable};
+
+// One turn in the inline table that `head` opened. The table of actions is lent, since the turns of a loop share one.
+pub fn inline_table_turn(
+    s: &[u8],
+    head: Token,
+    c: Cursor,
+    m: Counts,
+    p: Progress,
+    actions: &[[u8; 16]; 4],
+    events: &mut [u32],
+    errors: &mut [u32],
+) -> TableTurn
+    requires { ⌜ Good (now s) c × (now actions ≡ actionTable) ⌝ }
+    ensures { λ r. ⌜ Turned Progress (now (s .entry)) (λ nest loop. inlineTableTurn (span (head .start) (head .end)) nest loop p (tokensAt (now (s .entry)) c)) c (bufs (now (events .entry)) (now (errors .entry)) m) (now (events .exit)) (now (errors .exit)) (r .cur) (r .n) (r .progress) (r .next) ⌝ }
+{
+    let step = c.next(s);
+    let Step::Got(t, past) = step else {
+        let n = unclosed(
+            s,
+            head,
+            c,
+            m,
+            UNCLOSED_INLINE_TABLE,
+            CLOSE_CURLY,
+            events,
+            errors,
+        );
+        return over(Walk { cur: c, n }, p);
+    };
+    let k = t.kind;
+    let state = p.state;
+    let action = action_at(actions, state, k);
+    match action {
+        Action::Whitespace => {
+            let n = emit(events, m, Event::Whitespace, t.start, t.end);
+            again(Walk { cur: past, n }, p)
+        }
+        Action::Comment => {
+            let h = report_at(errors, m, COMMENT_IN_INLINE_TABLE, NOTHING, head, t);
+            let w = on_comment(s, t, past, h, events, errors);
+            again(w, p)
+        }
+        Action::Newline => {
+            let i = report_at(errors, m, NEWLINE_IN_INLINE_TABLE, NOTHING, head, t);
+            let n = emit(events, i, Event::Newline, t.start, t.end);
+            again(Walk { cur: past, n }, p)
+        }
+        Action::Eof => {
+            let i = report_at(errors, m, UNCLOSED_INLINE_TABLE, CLOSE_CURLY, head, t);
+            let n = emit(events, i, Event::InlineTableClose, t.start, t.start);
+            over(Walk { cur: past, n }, p)
+        }
+        Action::ValueSep => {
+            let n = emit(events, m, Event::ValueSep, t.start, t.end);
+            let empty = p.empty;
+            let q = Progress {
+                state: State::NeedsKey,
+                empty,
+            };
+            again(Walk { cur: past, n }, q)
+        }
+        Action::ExtraComma => {
+            let n = refuse(m, EXTRA_COMMA_IN_INLINE_TABLE, p, head, t, events, errors);
+            again(Walk { cur: past, n }, p)
+        }
+        Action::EmptyKey => {
+            let i = empty_key(events, m, t.start);
+            let n = emit(events, i, Event::KeyValSep, t.start, t.end);
+            read(Walk { cur: past, n }, State::NeedsValue)
+        }
+        Action::KeyValSep => {
+            let n = emit(events, m, Event::KeyValSep, t.start, t.end);
+            read(Walk { cur: past, n }, State::NeedsValue)
+        }
+        Action::ExtraAssignment => {
+            let n = refuse(m, EXTRA_ASSIGNMENT, p, head, t, events, errors);
+            again(Walk { cur: past, n }, p)
+        }
+        Action::KeylessArray => {
+            let h = refuse(m, MISSING_KEY_IN_INLINE_TABLE, p, head, t, events, errors);
+            let w = ignore_to_value_close(s, past, h, Bracket::Square, events, errors);
+            again(w, p)
+        }
+        Action::KeylessTable => {
+            let h = refuse(m, MISSING_KEY_IN_INLINE_TABLE, p, head, t, events, errors);
+            let w = ignore_to_value_close(s, past, h, Bracket::Curly, events, errors);
+            again(w, p)
+        }
+        Action::UnassignedArray => {
+            let n = missing(m, MISSING_ASSIGNMENT, p, head, t, errors);
+            opening(Walk { cur: past, n }, Next::OpenArray(t))
+        }
+        Action::UnassignedTable => {
+            let n = missing(m, MISSING_ASSIGNMENT, p, head, t, errors);
+            opening(Walk { cur: past, n }, Next::OpenTable(t))
+        }
+        Action::UnassignedScalar => {
+            let h = missing(m, MISSING_ASSIGNMENT, p, head, t, errors);
+            let w = on_scalar(s, t, past, h, events, errors);
+            read(w, State::NeedsComma)
+        }
+        Action::Array => opening(Walk { cur: past, n: m }, Next::OpenArray(t)),
+        Action::Table => opening(Walk { cur: past, n: m }, Next::OpenTable(t)),
+        Action::Scalar => {
+            let w = on_scalar(s, t, past, m, events, errors);
+            read(w, State::NeedsComma)
+        }
+        Action::Close => {
+            let i = trailing_comma(s, past, m, p, head, t, errors);
+            let n = emit(events, i, Event::InlineTableClose, t.start, t.end);
+            over(Walk { cur: past, n }, p)
+        }
+        Action::InvalidElement => {
+            let n = refuse(m, INVALID_INLINE_TABLE_ELEMENT, p, head, t, events, errors);
+            again(Walk { cur: past, n }, p)
+        }
+        Action::ArrayWithoutOpen => {
+            let i = report_before(errors, m, MISSING_ARRAY_OPENING, OPEN_SQUARE, t, t);
+            let j = emit(events, i, Event::ArrayOpen, t.start, t.start);
+            let n = emit(events, j, Event::ArrayClose, t.start, t.end);
+            read(Walk { cur: past, n }, State::NeedsComma)
+        }
+        Action::Key => {
+            let w = table_key(s, t, past, m, events, errors);
+            read(w, State::NeedsEquals)
+        }
+        Action::DotKey => {
+            let w = table_dot(s, t, past, m, events, errors);
+            read(w, State::NeedsEquals)
+        }
+        Action::KeyWithoutComma => {
+            let h = missing(m, MISSING_COMMA_IN_INLINE_TABLE, p, head, t, errors);
+            let w = table_key(s, t, past, h, events, errors);
+            read(w, State::NeedsEquals)
+        }
+        Action::DotKeyWithoutComma => {
+            let h = missing(m, MISSING_COMMA_IN_INLINE_TABLE, p, head, t, errors);
+            let w = table_dot(s, t, past, h, events, errors);
+            read(w, State::NeedsEquals)
+        }
+    }
+}

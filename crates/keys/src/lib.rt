@@ -1,0 +1,2 @@
+// Keys. Each function is proved equal to its rule.
+pub mod keys;

@@ -1,2 +1,0 @@
-// Keys. Each function is proved equal to its rule.
-pub mod names;
