@@ -78,9 +78,6 @@ rest-end n i events h = let m : n - i ≡ 0 = omega arith in rw m
 rest-start : (n : ℕ) (events : List ℕ) → rest n 0 events ≡ kindsFrom n 0 events
 rest-start n events = let m : n - 0 ≡ n = omega arith in rw m
 
-pub event-held : (n i : ℕ) (events : List ℕ) → i < n → n * eventSize ≤ length events → i * eventSize < length events
-event-held n i events less held = omega arith
-
 -- k entries are written, and the next event is event i
 pub record Walking (n : ℕ) (events out₀ : List ℕ) (state : IndexState) (k i : ℕ) (out : List ℕ) : Type 0 where
   pub at : state .at ≡ i

@@ -1,4 +1,5 @@
 // How many headers there are.
+use crate::state::kind_at;
 use crate::state::opens_header;
 ghost use mathlib.Core.Path.{_≡_};
 ghost use Prim.Native.Nat.{_*_, _≤_};
@@ -23,7 +24,7 @@ pub fn count_headers(events: &[u32], n: usize) -> usize
     let mut found = 0;
     let mut i = 0;
     while i < n {
-        let kind = events[i * 4];
+        let kind = kind_at(events, i);
         let opens = opens_header(kind);
         found += one_if(opens);
         i += 1;
