@@ -192,38 +192,40 @@ module _ {n : ℕ} {events out₀ : List ℕ} {state : IndexState} {k i : ℕ} {
     unfolding stateBehind
     end-state = ap (λ (kinds : List ℕ). stateBehind state kinds) (sym (rest-end n i events over)) ∙ w .states
 
--- `finish`: one entry, or none; and `finish_before`, by the test
-module _ (k : ℕ) (state : IndexState) (out : List ℕ) where
-  one-ends : state .found ≡ true → ended true state ≡ headerOf state ∷ []
-  one-ends f = rw f
+-- `finish`: one entry, or none
+module _ (k : ℕ) (state : IndexState) (out : List ℕ) (ends : Bool) where
+  one-ends : ends ≡ true → state .found ≡ true → ended ends state ≡ headerOf state ∷ []
+  one-ends e f = rw e (rw f)
 
-  pub none-found : state .found ≡ false → ended true state ≡ []
-  none-found f = rw f
+  pub none-found : ends ≡ true → state .found ≡ false → ended ends state ≡ []
+  none-found e f = rw e (rw f)
 
-  pub none-opens : (opens : Bool) → opens ≡ false → ended opens state ≡ []
-  none-opens opens o = rw o
+  pub none-ends : ends ≡ false → ended ends state ≡ []
+  none-ends e = rw e
 
-  pub one-fits : state .found ≡ true → Finishable true state k out → entrySize * k + entrySize ≤ length out
-  one-fits f h = let l = ap length (one-ends f) in omega (arith, l, h .room)
+  pub one-fits : ends ≡ true → state .found ≡ true → Finishable ends state k out → entrySize * k + entrySize ≤ length out
+  one-fits e f h = let l = ap length (one-ends e f) in omega (arith, l, h .room)
 
-  pub writes-one : state .found ≡ true → (out′ : List ℕ) → out′ ≡ placed (entrySize * k) (entryBytes (headerOf state)) out → Finished true state k out out′ (k + 1)
+  pub writes-one : ends ≡ true → state .found ≡ true → (out′ : List ℕ) → out′ ≡ placed (entrySize * k) (entryBytes (headerOf state)) out → Finished ends state k out out′ (k + 1)
   unfolding indexBytes
-  writes-one f out′ p =
+  writes-one e f out′ p =
       record {
-        entries = ap (λ (hs : List Header). k + length hs) (sym (one-ends f));
-        bytes = p ∙ ap (λ (hs : List Header). placed (entrySize * k) (indexBytes hs) out) (sym (one-ends f));
+        entries = ap (λ (hs : List Header). k + length hs) (sym (one-ends e f));
+        bytes = p ∙ ap (λ (hs : List Header). placed (entrySize * k) (indexBytes hs) out) (sym (one-ends e f));
       }
 
-  pub writes-none : (ends : Bool) → ended ends state ≡ [] → Finished ends state k out out k
+  pub writes-none : ended ends state ≡ [] → Finished ends state k out out k
   unfolding indexBytes
-  writes-none ends e =
+  writes-none e =
       record {
         entries = omega (arith, ap length e);
         bytes = sym (placed-none (entrySize * k) out) ∙ ap (λ (hs : List Header). placed (entrySize * k) (indexBytes hs) out) (sym e);
       }
 
-  pub opens-fits : (opens : Bool) → opens ≡ true → Finishable opens state k out → Finishable true state k out
-  opens-fits opens o h = subst (λ (ends : Bool). Finishable ends state k out) o h
+-- `finish_before`: the test is the rule's
+module _ (k : ℕ) (state : IndexState) (out : List ℕ) (ends opens : Bool) (e : ends ≡ opens) where
+  pub opens-fits : Finishable opens state k out → Finishable ends state k out
+  opens-fits h = subst (λ (b : Bool). Finishable b state k out) (sym e) h
 
-  pub opens-writes : (opens : Bool) → opens ≡ true → (out′ : List ℕ) (k′ : ℕ) → Finished true state k out out′ k′ → Finished opens state k out out′ k′
-  opens-writes opens o out′ k′ f = subst (λ (ends : Bool). Finished ends state k out out′ k′) (sym o) f
+  pub opens-writes : (out′ : List ℕ) (k′ : ℕ) → Finished ends state k out out′ k′ → Finished opens state k out out′ k′
+  opens-writes out′ k′ f = subst (λ (b : Bool). Finished b state k out out′ k′) e f

@@ -6,39 +6,39 @@ use crate::state::kind_at;
 use crate::state::note;
 use crate::state::opens_header;
 ghost use mathlib.Core.Path.{_≡_};
-ghost use mathlib.Core.Bool.{true};
 ghost use mathlib.Core.List.{_++_};
 ghost use Prim.Native.Nat.{_*_};
 ghost use lib.ListN.{length, drop};
 ghost use Rattle.index.specs.Headers.{opensHeader, entrySize, kindsFrom, headersIn, indexBytes};
 ghost use Rattle.index.specs.States.{stateBehind, Finishable, Finished, Walkable};
 
-// The header that the state is in, if it is in one, ends here: it is written as entry k. Answers how many entries there are then.
-fn finish(index: &mut [u8], k: usize, state: IndexState) -> usize
-    requires { ⌜ Finishable true state k (now index) ⌝ }
-    ensures { λ r. ⌜ Finished true state k (now (index .entry)) (now (index .exit)) r ⌝ }
+// The header that the state is in is written as entry k, if one ends here. Answers how many entries there are then.
+fn finish(index: &mut [u8], k: usize, ends: bool, state: IndexState) -> usize
+    requires { ⌜ Finishable ends state k (now index) ⌝ }
+    ensures { λ r. ⌜ Finished ends state k (now (index .entry)) (now (index .exit)) r ⌝ }
 {
-    let found = state.found;
-    if found {
-        let at = state.at;
-        let place = state.place;
-        let parts = state.parts;
-        let array = state.array;
-        put_entry(index, ENTRY_SIZE * k, place, parts, array, at - place);
-        return k + 1;
+    if ends {
+        let found = state.found;
+        if found {
+            let at = state.at;
+            let place = state.place;
+            let parts = state.parts;
+            let array = state.array;
+            put_entry(index, ENTRY_SIZE * k, place, parts, array, at - place);
+            return k + 1;
+        }
+        return k;
     }
     k
 }
 
-// It ends where an event of the kind opens the next one.
+// One ends where an event of the kind opens the next one.
 fn finish_before(index: &mut [u8], k: usize, state: IndexState, kind: u32) -> usize
     requires { ⌜ Finishable (opensHeader kind) state k (now index) ⌝ }
     ensures { λ r. ⌜ Finished (opensHeader kind) state k (now (index .entry)) (now (index .exit)) r ⌝ }
 {
-    if opens_header(kind) {
-        return finish(index, k, state);
-    }
-    k
+    let ends = opens_header(kind);
+    finish(index, k, ends, state)
 }
 
 // The builder is lent to the walk, and altered there with each of the first n events.
@@ -54,5 +54,5 @@ pub fn walk(state: &mut IndexState, events: &[u32], n: usize, index: &mut [u8])
         note(state, kind);
         i += 1;
     }
-    finish(index, k, *state);
+    finish(index, k, true, *state);
 }

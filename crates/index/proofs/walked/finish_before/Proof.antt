@@ -1,8 +1,7 @@
--- `finish` where a header opens, else nothing.
+-- `finish`, by the test of the kind.
 -- Made by ./proofs from Proof.tmpl: change that.
-use mathlib.Core.Path.{_≡_, sym, _∙_}
 use Rattle.index.specs.Headers.{opensHeader}
-use Rattle.index.proofs.WalkLaws.{opens-fits, opens-writes, writes-none, none-opens}
+use Rattle.index.proofs.WalkLaws.{opens-fits, opens-writes}
 use borrow.Author.Needs.{needs}
 use Rattle.index.proofs.walked.finish_before.Statement.{statement}
 use Rattle.index.proofs.walked.finish_before.Tie as tie
@@ -11,16 +10,13 @@ opens-header-requires : tie.Need-opens-header-requires
 opens-header-requires c κs = search needs
 
 finish-requires : tie.Need-finish-requires
-finish-requires c κs = opens-fits ((c .before .before .before .before .args) .k) ((c .before .before .before .before .args) .state) ((c .before .before .before .before .args) .index .now) (opensHeader ((c .before .before .before .before .args) .kind)) (sym ((c .before .before .opens-header) .ensures) ∙ (c .before .if1) .taken) (c .before .before .before .before .pre)
+finish-requires c κs = opens-fits ((c .before .before .before .args) .k) ((c .before .before .before .args) .state) ((c .before .before .before .args) .index .now) ((c .before .opens-header) .result) (opensHeader ((c .before .before .before .args) .kind)) ((c .before .opens-header) .ensures) (c .before .before .before .pre)
 
 same-length : tie.Need-same-length
 same-length c = search needs
 
 returns : tie.Need-returns
-returns c = opens-writes ((c .before .before .before .before .before .before .before .args) .k) ((c .before .before .before .before .before .before .before .args) .state) ((c .before .before .before .before .before .before .before .args) .index .now) (opensHeader ((c .before .before .before .before .before .before .before .args) .kind)) (sym ((c .before .before .before .before .before .opens-header) .ensures) ∙ (c .before .before .before .before .if1) .taken) _ _ ((c .before .before .finish) .ensures)
-
-returns-2 : tie.Need-returns-2
-returns-2 c = writes-none ((c .before .before .before .args) .k) ((c .before .before .before .args) .state) ((c .before .before .before .args) .index .now) (opensHeader ((c .before .before .before .args) .kind)) (none-opens ((c .before .before .before .args) .k) ((c .before .before .before .args) .state) ((c .before .before .before .args) .index .now) (opensHeader ((c .before .before .before .args) .kind)) (sym ((c .before .opens-header) .ensures) ∙ (c .if1) .left))
+returns c = opens-writes ((c .before .before .before .before .before .before .args) .k) ((c .before .before .before .before .before .before .args) .state) ((c .before .before .before .before .before .before .args) .index .now) ((c .before .before .before .before .opens-header) .result) (opensHeader ((c .before .before .before .before .before .before .args) .kind)) ((c .before .before .before .before .opens-header) .ensures) _ _ ((c .before .before .finish) .ensures)
 
 pub finish-before-spec : {M : Type 1} → statement M
 finish-before-spec =
@@ -29,5 +25,4 @@ finish-before-spec =
     opens-header-requires
     finish-requires
     same-length
-    returns
-    returns-2)
+    returns)

@@ -26,7 +26,7 @@ use contract.Monad.{Fun, fact}
 use contract.Running.{givenOf, tables, tablesOf}
 use types.Kit.{Given, Item, ‵, raw, some, later, _⊛_, ⋆, runs, anyQ, atRet, Sq, _$_, _∵_, !, qed, by, move, keep, drop as drops, use1, use2, use3, split, join, pick, rewrite, fsplit, fsplit3, fjoin, fjoin3, feqL, feqI, suffices, frame, await, done}
 use types.Part.{agg, whole, sub, look-in}
-use types.Run.{look, look-raw, store, init, forget, stop, hop, fld, from, load, lit, addr, unit-lit, of-opd, bin, and-then, no-more, assigns, assigns-last, land, first, blocks, stays, leaves-loop, returns, enter, alloc1, alloc0, params1, pass1, pass0, free1, free0, exec, Below, again, loops}
+use types.Run.{look, look-raw, store, init, forget, stop, hop, fld, from, load, lit, addr, unit-lit, true-lit, of-opd, bin, and-then, no-more, assigns, assigns-last, land, first, blocks, stays, leaves-loop, returns, enter, alloc1, alloc0, params1, pass1, pass0, free1, free0, exec, Below, again, loops}
 use types.Tokens.{lft-new, lft-end}
 use sound.WpLaws.{fmOf, WpFn-mono}
 use denote.Exit.{yes}
@@ -222,9 +222,9 @@ module _ {M : Type 1} (𝓤 : URA M) (H : Heap 𝓤) (A : Atoms 𝓤) (W : Given
             rewrite ! 0 (λ (j : ℕ). ‵ (MutSlice (named 0) (ν ∷ []) u8 .own (bx δ zs) (sliceVal (b′, o′) j ∷ []))) same refl $
             move ! (2 ∷ 0 ∷ []) $ use2 W (raw (Last 𝓤 H A at-mem run .pre (to-last 𝓤 H A at-mem run ν (bx δ zs) s k r))) (goes-last 𝓤 H A W at-mem run ν (bx δ zs) s k r gk gr (last-fits w over)) $
             -- [the call's pre; what comes back; the builder; κ₁; events; κ₂; _17; …]
-            calls-at ! (fmOf 𝓤 H (W .laws) 𝓣) (Last 𝓤 H A at-mem run) (known .last) (to-last 𝓤 H A at-mem run ν (bx δ zs) s k r) (and-then ! (load ! (from ! (stop !)) (look ! 8 refl)) (and-then ! (load ! (from ! (stop !)) (look ! 30 refl)) (and-then ! (load ! (from ! (stop !)) (look ! 6 refl)) (no-more !)))) (λ v.
-            use1 W (later (some (λ (k′ : ℕ). ((‵ (flft (ν ∷ []) fullShare) ⊛ ‵ ftrue) ⊛ ‵ (usize .own k′ (v ∷ []))) ⊛ raw (ensured 𝓤 H A last.ended (last.clauses 𝓤 H A at-mem run) (ν ∷ [], tt) (bx δ zs, (k, (r, tt))) tt k′)))) (id⊢ 𝓤 _) $ await ! tt $ pick ! (λ k′.
-            split ! $ move ! (1 ∷ []) $ use1 W (some (λ (us : List ℕ × (Unit {0} × (Unit {0} × Unit {0}))). ‵ (lasts last.ended (ν ∷ [], tt) (bx δ zs, (k, (r, tt))) us) ⊛ raw (fact 𝓤 (Finished true r k zs (us .0) k′)))) (id⊢ 𝓤 _) $ pick ! (λ us.
+            calls-at ! (fmOf 𝓤 H (W .laws) 𝓣) (Last 𝓤 H A at-mem run) (known .last) (to-last 𝓤 H A at-mem run ν (bx δ zs) s k r) (and-then ! (load ! (from ! (stop !)) (look ! 8 refl)) (and-then ! (load ! (from ! (stop !)) (look ! 30 refl)) (and-then ! (true-lit !) (and-then ! (load ! (from ! (stop !)) (look ! 6 refl)) (no-more !))))) (λ v.
+            use1 W (later (some (λ (k′ : ℕ). ((‵ (flft (ν ∷ []) fullShare) ⊛ ‵ ftrue) ⊛ ‵ (usize .own k′ (v ∷ []))) ⊛ raw (ensured 𝓤 H A last.ended (last.clauses 𝓤 H A at-mem run) (ν ∷ [], tt) (bx δ zs, (k, (true, (r, tt)))) tt k′)))) (id⊢ 𝓤 _) $ await ! tt $ pick ! (λ k′.
+            split ! $ move ! (1 ∷ []) $ use1 W (some (λ (us : List ℕ × (Unit {0} × (Unit {0} × (Unit {0} × Unit {0})))). ‵ (lasts last.ended (ν ∷ [], tt) (bx δ zs, (k, (true, (r, tt)))) us) ⊛ raw (fact 𝓤 (Finished true r k zs (us .0) k′)))) (id⊢ 𝓤 _) $ pick ! (λ us.
             split ! $ move ! (1 ∷ []) $ heard ! (Finished true r k zs (us .0) k′) (λ e. fsplit ! $ fsplit ! $ move ! (1 ∷ []) $ feqL ! (λ l.
             move ! (2 ∷ []) $ split ! $ move ! (1 ∷ []) $ peeks ! usize (Is usize) (shows 𝓤 H A usize) k′ (v ∷ []) (λ gk′.
             -- [what k′ owns; ν; index's last list; the others'; what comes back; the builder; κ₁; events; κ₂; _17; …]
