@@ -1,4 +1,5 @@
 -- What the exported functions of the index promise. Assumes nothing.
+use mathlib.Core.Path.{_≡_}
 use mathlib.Core.List.{List}
 use Prim.Native.Nat.{ℕ}
 use Rattle.rules.specs.declared.answer.Answer.{Answer}
@@ -6,6 +7,7 @@ use Rattle.index.specs.declared.Indexed.{Indexed}
 use Rattle.index.specs.declared.reading.HeaderAt.{HeaderAt}
 use Rattle.index.specs.Headers.{mark}
 use Rattle.index.specs.Outcome.{Indexes}
+use Rattle.index.specs.Reading.{headerAt}
 use Rattle.deckmarten.specs.declared.indexes.ExportedIndexed.{ExportedIndexed}
 use Rattle.deckmarten.specs.declared.indexes.ExportedHeader.{ExportedHeader}
 
@@ -22,3 +24,17 @@ abbrev pub headerStructure : HeaderAt → ExportedHeader
 headerStructure (HeaderAt.Entry place parts array events next) = record { found = 1; array = mark array; place = place; parts = parts; events = events; next = next }
 headerStructure HeaderAt.End = record { found = 0; array = 0; place = 0; parts = 0; events = 0; next = 0 }
 headerStructure HeaderAt.NoEntry = record { found = 2; array = 0; place = 0; parts = 0; events = 0; next = 0 }
+
+-- the C structure r is the one of what stands at this position
+abbrev pub ExportsHeader : List ℕ → ℕ → ExportedHeader → Type 0
+ExportsHeader index at r = r ≡ headerStructure (headerAt index at)
+
+-- the C structure and the index buffer behind it
+pub record ExportedIndexOutcome : Type 0 where
+  pub answer : ExportedIndexed
+  pub index : List ℕ
+
+-- two that meet the same contract for the same input are equal
+pub record ExportedIndexesDetermined (answer : Answer) (events index : List ℕ) (at : ℕ) : Type 0 where
+  pub indexed : (x y : ExportedIndexOutcome) → ExportsIndex answer events index (x .index) (x .answer) → ExportsIndex answer events index (y .index) (y .answer) → x ≡ y
+  pub header : (x y : ExportedHeader) → ExportsHeader index at x → ExportsHeader index at y → x ≡ y

@@ -5,11 +5,11 @@ use index::Indexed;
 use index::index as index_of;
 use index::reading::HeaderAt;
 use index::reading::header_at;
+use index::theorems::indexes_are_determined;
 ghost use mathlib.Core.Path.{_≡_};
 ghost use Rattle.index.specs.Headers.{mark};
-ghost use Rattle.index.specs.Reading.{headerAt};
 ghost use Rattle.deckmarten.specs.Exported.{plain};
-ghost use Rattle.deckmarten.specs.ExportedIndexes.{plainIndexed, ExportsIndex, headerStructure};
+ghost use Rattle.deckmarten.specs.ExportedIndexes.{plainIndexed, ExportsIndex, headerStructure, ExportsHeader, ExportedIndexesDetermined};
 
 // The refusal's number (0 if none), how many headers there are, and how many bytes their index has, or would have.
 #[repr(C)]
@@ -101,8 +101,22 @@ pub extern "C" fn deckmarten_index(
 
 #[no_mangle]
 pub extern "C" fn deckmarten_header_at(index: &[u8], at: usize) -> ExportedHeader
-    ensures { λ r. ⌜ r ≡ headerStructure (headerAt (now (index .entry)) at) ⌝ }
+    ensures { λ r. ⌜ ExportsHeader (now (index .entry)) at r ⌝ }
 {
     let h = header_at(index, at);
     exported_header(h)
+}
+
+// Two C structures, the first sort each with the index buffer that it leaves, that both meet the contract of one of these for the same input
+// are equal.
+pub fn exported_indexes_are_determined(
+    answer: ExportedAnswer,
+    events: &[u32],
+    index: &[u8],
+    at: usize,
+)
+    ensures { λ _. ⌜ ExportedIndexesDetermined (plain answer) (now (events .entry)) (now (index .entry)) at ⌝ }
+{
+    let a = taken(answer);
+    indexes_are_determined(a, events, index)
 }

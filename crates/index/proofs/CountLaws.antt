@@ -9,6 +9,10 @@ use lib.ListN.{length, getD}
 use Rattle.rules.specs.Answer.{eventSize}
 use Rattle.index.specs.Headers.{opensHeader, oneIf, Header, headersFrom, kindsFrom, headersIn}
 
+-- event i of n is in the buffer that holds them
+pub event-held : (n i : ℕ) (buffer : List ℕ) → i < n → n * eventSize ≤ length buffer → i * eventSize < length buffer
+event-held n i buffer less held = omega arith
+
 -- the headers of the events from event i on, of n
 abbrev pub headersLeft : ℕ → ℕ → List ℕ → ℕ
 headersLeft n i buffer = length (headersFrom i (kindsFrom (n - i) i buffer))

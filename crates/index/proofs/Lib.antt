@@ -6,3 +6,4 @@ pub mod IndexLaws
 pub mod ReadLaws
 pub mod AgainLaws
 pub mod RunLaws
+pub mod Again

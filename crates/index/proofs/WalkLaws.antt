@@ -12,7 +12,7 @@ use Rattle.token.specs.Limits.{maxRecords}
 use Rattle.rules.specs.Answer.{eventSize}
 use Rattle.index.specs.declared.state.IndexState.{IndexState}
 use Rattle.index.specs.Headers.{opensHeader, Header, headersFrom, kindsFrom, headersIn, entrySize, entryBytes, indexBytes}
-use Rattle.index.specs.States.{more, partsAfter, stateAfter, stateBehind, fresh, headerOf, ended}
+use Rattle.index.specs.States.{more, partsAfter, stateAfter, stateBehind, fresh, headerOf, ended, Finishable, Finished}
 use Rattle.index.specs.Placing.{placed}
 use Rattle.index.proofs.StateLaws.{current, collected, finished, Within, noted}
 use Rattle.index.proofs.PlacedLaws.{placed-on, placed-none, placed-length, placed-start, index-length, index-append}
@@ -113,7 +113,7 @@ module _ {n : ℕ} {events out₀ : List ℕ} {state : IndexState} {k i : ℕ} {
   within : i ≤ n → Within state
   within h = record { small = omega (arith, w .at, w .few); place = omega (arith, w .at, w .place); parts = omega (arith, w .at, w .parts) }
 
-  pub placed-low : state .place ≤ state .at
+  placed-low : state .place ≤ state .at
   placed-low = omega (arith, w .at, w .place)
 
   -- what is finished, and what comes behind it
@@ -121,16 +121,16 @@ module _ {n : ℕ} {events out₀ : List ℕ} {state : IndexState} {k i : ℕ} {
     lengths : length done + length more ≡ length (collected state (rest n i events))
     lengths = sym (length-append done more) ∙ ap length e
 
-    pub done-room : entrySize * (k + length done) ≤ length out
+    done-room : entrySize * (k + length done) ≤ length out
     done-room = omega (arith, lengths, w .total, w .room)
 
     bytes-room : entrySize * k + length (indexBytes done) ≤ length out
     bytes-room = omega (arith, done-room, index-length done)
 
-    pub done-length : length (placed (entrySize * k) (indexBytes done) out) ≡ length out₀
+    done-length : length (placed (entrySize * k) (indexBytes done) out) ≡ length out₀
     done-length = placed-length (entrySize * k) (indexBytes done) out bytes-room ∙ w .keeps
 
-    pub done-same : placed (entrySize * (k + length done)) (indexBytes more) (placed (entrySize * k) (indexBytes done) out) ≡ placed 0 (indexBytes (headersIn n events)) out₀
+    done-same : placed (entrySize * (k + length done)) (indexBytes more) (placed (entrySize * k) (indexBytes done) out) ≡ placed 0 (indexBytes (headersIn n events)) out₀
     done-same =
         let m : entrySize * (k + length done) ≡ entrySize * k + length (indexBytes done) = omega (arith, index-length done) in
         ap (λ (at : ℕ). placed at (indexBytes more) (placed (entrySize * k) (indexBytes done) out)) m
@@ -148,18 +148,18 @@ module _ {n : ℕ} {events out₀ : List ℕ} {state : IndexState} {k i : ℕ} {
         ∙ noted state kind (rest n (i + 1) events) (within (w .low))
         ∙ ap (λ (kinds : List ℕ). collected state kinds) (sym (rest-on n i events less))
 
-    pub turn-room : entrySize * (k + length (ended opens state)) ≤ length out
-    turn-room = done-room (ended opens state) (collected (stateAfter state kind) (rest n (i + 1) events)) cut
+    pub turn-fits : Finishable opens state k out
+    turn-fits = record { room = done-room (ended opens state) (collected (stateAfter state kind) (rest n (i + 1) events)) cut; place = placed-low }
 
-    pub walking-on : (k′ : ℕ) (out′ : List ℕ) (state′ : IndexState) → k′ ≡ k + length (ended opens state) → out′ ≡ placed (entrySize * k) (indexBytes (ended opens state)) out → state′ ≡ stateAfter state kind → Walking n events out₀ state′ k′ (i + 1) out′
+    pub walking-on : (k′ : ℕ) (out′ : List ℕ) (state′ : IndexState) → Finished opens state k out out′ k′ → state′ ≡ stateAfter state kind → Walking n events out₀ state′ k′ (i + 1) out′
     unfolding stateBehind
-    walking-on k′ out′ state′ ek eo es =
+    walking-on k′ out′ state′ f es =
         let a = after opens state kind (sym o) (within (w .low)) in
         let more : List Header = collected (stateAfter state kind) (rest n (i + 1) events) in
         let l = done-length (ended opens state) more cut in
         subst (λ (s : IndexState). Walking n events out₀ s k′ (i + 1) out′) (sym es)
-        (subst (λ (out″ : List ℕ). Walking n events out₀ (stateAfter state kind) k′ (i + 1) out″) (sym eo)
-        (subst (λ (k″ : ℕ). Walking n events out₀ (stateAfter state kind) k″ (i + 1) (placed (entrySize * k) (indexBytes (ended opens state)) out)) (sym ek)
+        (subst (λ (out″ : List ℕ). Walking n events out₀ (stateAfter state kind) k′ (i + 1) out″) (sym (f .bytes))
+        (subst (λ (k″ : ℕ). Walking n events out₀ (stateAfter state kind) k″ (i + 1) (placed (entrySize * k) (indexBytes (ended opens state)) out)) (sym (f .entries))
         (record {
           at = a .at ∙ omega (arith, w .at);
           low = omega arith;
@@ -177,19 +177,16 @@ module _ {n : ℕ} {events out₀ : List ℕ} {state : IndexState} {k i : ℕ} {
     last : ended true state ++ [] ≡ collected state (rest n i events)
     last = append-nil (ended true state) ∙ sym (collected-end state) ∙ ap (λ (kinds : List ℕ). collected state kinds) (sym (rest-end n i events over))
 
-    pub last-room : entrySize * (k + length (ended true state)) ≤ length out
-    last-room = done-room (ended true state) [] last
+    pub last-fits : Finishable true state k out
+    last-fits = record { room = done-room (ended true state) [] last; place = placed-low }
 
-    pub walking-end : (out′ : List ℕ) → out′ ≡ placed (entrySize * k) (indexBytes (ended true state)) out → out′ ≡ indexBytes (headersIn n events) ++ drop (entrySize * length (headersIn n events)) out₀
+    pub walking-end : (out′ : List ℕ) (k′ : ℕ) → Finished true state k out out′ k′ → out′ ≡ indexBytes (headersIn n events) ++ drop (entrySize * length (headersIn n events)) out₀
     unfolding indexBytes
-    walking-end out′ e =
-        e
+    walking-end out′ k′ f =
+        f .bytes
         ∙ sym (placed-none (entrySize * (k + length (ended true state))) (placed (entrySize * k) (indexBytes (ended true state)) out))
         ∙ done-same (ended true state) [] last
         ∙ placed-start (entrySize * length (headersIn n events)) (indexBytes (headersIn n events)) out₀ (index-length (headersIn n events))
-
-    pub end-length : (out′ : List ℕ) → out′ ≡ placed (entrySize * k) (indexBytes (ended true state)) out → length out′ ≡ length out₀
-    end-length out′ e = ap length e ∙ done-length (ended true state) [] last
 
     pub end-state : state ≡ stateBehind fresh (kindsFrom n 0 events)
     unfolding stateBehind
@@ -206,20 +203,29 @@ module _ (k : ℕ) (state : IndexState) (out : List ℕ) (ends : Bool) where
   pub none-ends : ends ≡ false → ended ends state ≡ []
   none-ends e = rw e
 
-  pub one-fits : ends ≡ true → state .found ≡ true → entrySize * (k + length (ended ends state)) ≤ length out → entrySize * k + entrySize ≤ length out
-  one-fits e f h = let l = ap length (one-ends e f) in omega (arith, l, h)
+  pub one-fits : ends ≡ true → state .found ≡ true → Finishable ends state k out → entrySize * k + entrySize ≤ length out
+  one-fits e f h = let l = ap length (one-ends e f) in omega (arith, l, h .room)
 
-  pub writes-one : ends ≡ true → state .found ≡ true → (out′ : List ℕ) → out′ ≡ placed (entrySize * k) (entryBytes (headerOf state)) out
-      → (k + 1 ≡ k + length (ended ends state)) × (out′ ≡ placed (entrySize * k) (indexBytes (ended ends state)) out)
+  pub writes-one : ends ≡ true → state .found ≡ true → (out′ : List ℕ) → out′ ≡ placed (entrySize * k) (entryBytes (headerOf state)) out → Finished ends state k out out′ (k + 1)
   unfolding indexBytes
-  writes-one e f out′ p = (
-    ap (λ (hs : List Header). k + length hs) (sym (one-ends e f)),
-    p ∙ ap (λ (hs : List Header). placed (entrySize * k) (indexBytes hs) out) (sym (one-ends e f)),
-  )
+  writes-one e f out′ p =
+      record {
+        entries = ap (λ (hs : List Header). k + length hs) (sym (one-ends e f));
+        bytes = p ∙ ap (λ (hs : List Header). placed (entrySize * k) (indexBytes hs) out) (sym (one-ends e f));
+      }
 
-  pub writes-none : ended ends state ≡ [] → (k ≡ k + length (ended ends state)) × (out ≡ placed (entrySize * k) (indexBytes (ended ends state)) out)
+  pub writes-none : ended ends state ≡ [] → Finished ends state k out out k
   unfolding indexBytes
-  writes-none e = (
-    omega (arith, ap length e),
-    sym (placed-none (entrySize * k) out) ∙ ap (λ (hs : List Header). placed (entrySize * k) (indexBytes hs) out) (sym e),
-  )
+  writes-none e =
+      record {
+        entries = omega (arith, ap length e);
+        bytes = sym (placed-none (entrySize * k) out) ∙ ap (λ (hs : List Header). placed (entrySize * k) (indexBytes hs) out) (sym e);
+      }
+
+-- `finish_before`: the test is the rule's
+module _ (k : ℕ) (state : IndexState) (out : List ℕ) (ends opens : Bool) (e : ends ≡ opens) where
+  pub opens-fits : Finishable opens state k out → Finishable ends state k out
+  opens-fits h = subst (λ (b : Bool). Finishable b state k out) (sym e) h
+
+  pub opens-writes : (out′ : List ℕ) (k′ : ℕ) → Finished ends state k out out′ k′ → Finished opens state k out out′ k′
+  opens-writes out′ k′ f = subst (λ (b : Bool). Finished b state k out out′ k′) e f

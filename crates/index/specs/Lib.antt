@@ -1,7 +1,7 @@
 pub mod Headers
+pub mod Placing
 pub mod States
 pub mod Refusals
-pub mod Placing
 pub mod Outcome
 pub mod Reading
 pub mod Reads

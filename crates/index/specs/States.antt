@@ -8,7 +8,8 @@ use mathlib.Core.Bool.{Bool, true, false, cond}
 use mathlib.Core.List.{List, [], _∷_}
 use lib.Dec.{eqb, ltb}
 use Rattle.index.specs.declared.state.IndexState.{IndexState}
-use Rattle.index.specs.Headers.{Header, opensHeader, closing, headersIn, entrySize}
+use Rattle.index.specs.Headers.{Header, opensHeader, closing, headersIn, entrySize, indexBytes}
+use Rattle.index.specs.Placing.{placed}
 
 -- one more; a count stops at the largest number
 abbrev pub more : ℕ → ℕ
@@ -58,6 +59,16 @@ headerOf state = record { place = state .place; parts = state .parts; array = st
 abbrev pub ended : Bool → IndexState → List Header
 ended true state = cond (state .found) (headerOf state ∷ []) []
 ended false state = []
+
+-- the header that ends here, if one does, can be written as entry k: it has room, and does not end before it begins
+pub record Finishable (ends : Bool) (state : IndexState) (k : ℕ) (index : List ℕ) : Type 0 where
+  pub room : entrySize * (k + length (ended ends state)) ≤ length index
+  pub place : state .place ≤ state .at
+
+-- it is written as entry k, and nothing else; then there are r entries
+pub record Finished (ends : Bool) (state : IndexState) (k : ℕ) (index after : List ℕ) (r : ℕ) : Type 0 where
+  pub entries : r ≡ k + length (ended ends state)
+  pub bytes : after ≡ placed (entrySize * k) (indexBytes (ended ends state)) index
 
 -- the walk may begin: before the first of n events, which the buffer holds and which are not too many, and their entries have room
 pub record Walkable (state : IndexState) (events : List ℕ) (n : ℕ) (index : List ℕ) : Type 0 where

@@ -1,6 +1,6 @@
 // How many headers there are.
+use crate::state::kind_at;
 use crate::state::opens_header;
-use rules::answer::EVENT_WORDS;
 ghost use mathlib.Core.Path.{_≡_};
 ghost use Prim.Native.Nat.{_*_, _≤_};
 ghost use lib.ListN.{length};
@@ -24,7 +24,7 @@ pub fn count_headers(events: &[u32], n: usize) -> usize
     let mut found = 0;
     let mut i = 0;
     while i < n {
-        let kind = events[i * EVENT_WORDS];
+        let kind = kind_at(events, i);
         let opens = opens_header(kind);
         found += one_if(opens);
         i += 1;

@@ -1,5 +1,9 @@
 // The index builder: what is known of the header that the walk over the events is in. It is lent to the walk and altered there.
+use rules::answer::EVENT_WORDS;
 ghost use mathlib.Core.Path.{_≡_};
+ghost use Prim.Native.Nat.{_*_, _<_};
+ghost use lib.ListN.{length, getD};
+ghost use Rattle.rules.specs.Answer.{eventSize};
 ghost use Rattle.index.specs.Headers.{opensHeader, closing};
 ghost use Rattle.index.specs.States.{fresh, more, countingAfter, partsAfter, stateAfter};
 
@@ -36,6 +40,14 @@ fn more(n: usize) -> usize
         return n + 1;
     }
     n
+}
+
+// The kind of event i: word 0 of its four.
+pub fn kind_at(events: &[u32], i: usize) -> u32
+    requires { ⌜ i * eventSize < length (now events) ⌝ }
+    ensures { λ r. ⌜ r ≡ getD (now (events .entry)) (i * eventSize) 0 ⌝ }
+{
+    events[i * EVENT_WORDS]
 }
 
 // std_table_open and array_table_open.
@@ -82,7 +94,7 @@ fn parts_after(counting: bool, kind: u32, parts: usize) -> usize
 }
 
 // The state behind an event of the kind.
-pub fn stepped(state: IndexState, kind: u32) -> IndexState
+fn stepped(state: IndexState, kind: u32) -> IndexState
     ensures { λ r. ⌜ r ≡ stateAfter state kind ⌝ }
 {
     let at = state.at;
@@ -106,4 +118,11 @@ pub fn stepped(state: IndexState, kind: u32) -> IndexState
         parts: parts_after(counting, kind, state.parts),
         array,
     }
+}
+
+// The lent state is altered: an event of the kind was met.
+pub fn note(state: &mut IndexState, kind: u32)
+    ensures { λ _. ⌜ now (state .exit) ≡ stateAfter (now (state .entry)) kind ⌝ }
+{
+    *state = stepped(*state, kind);
 }

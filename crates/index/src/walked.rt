@@ -2,22 +2,20 @@
 use crate::entry::ENTRY_SIZE;
 use crate::entry::put_entry;
 use crate::state::IndexState;
+use crate::state::kind_at;
+use crate::state::note;
 use crate::state::opens_header;
-use crate::state::stepped;
-use rules::answer::EVENT_WORDS;
 ghost use mathlib.Core.Path.{_≡_};
 ghost use mathlib.Core.List.{_++_};
-ghost use Prim.Native.Nat.{_+_, _*_, _≤_};
+ghost use Prim.Native.Nat.{_*_};
 ghost use lib.ListN.{length, drop};
-ghost use Rattle.index.specs.Headers.{entrySize, kindsFrom, headersIn, indexBytes};
-ghost use Rattle.index.specs.States.{stateBehind, ended, Walkable};
-ghost use Rattle.index.specs.Placing.{placed};
+ghost use Rattle.index.specs.Headers.{opensHeader, entrySize, kindsFrom, headersIn, indexBytes};
+ghost use Rattle.index.specs.States.{stateBehind, Finishable, Finished, Walkable};
 
-// The header that the state is in is written as entry k, if one ends here. Answers how many entries there are now.
+// The header that the state is in is written as entry k, if one ends here. Answers how many entries there are then.
 fn finish(index: &mut [u8], k: usize, ends: bool, state: IndexState) -> usize
-    requires { ⌜ entrySize * (k + length (ended ends state)) ≤ length (now index) ⌝ }
-    requires { ⌜ state .place ≤ state .at ⌝ }
-    ensures { λ r. ⌜ (r ≡ k + length (ended ends state)) × (now (index .exit) ≡ placed (entrySize * k) (indexBytes (ended ends state)) (now (index .entry))) ⌝ }
+    requires { ⌜ Finishable ends state k (now index) ⌝ }
+    ensures { λ r. ⌜ Finished ends state k (now (index .entry)) (now (index .exit)) r ⌝ }
 {
     if ends {
         let found = state.found;
@@ -34,29 +32,27 @@ fn finish(index: &mut [u8], k: usize, ends: bool, state: IndexState) -> usize
     k
 }
 
-// The first n events.
-pub fn walked(state: IndexState, events: &[u32], n: usize, index: &mut [u8]) -> IndexState
-    requires { ⌜ Walkable state (now events) n (now index) ⌝ }
-    ensures { λ r. ⌜ (r ≡ stateBehind state (kindsFrom n 0 (now (events .entry)))) × (now (index .exit) ≡ indexBytes (headersIn n (now (events .entry))) ++ drop (entrySize * length (headersIn n (now (events .entry)))) (now (index .entry))) ⌝ }
+// One ends where an event of the kind opens the next one.
+fn finish_before(index: &mut [u8], k: usize, state: IndexState, kind: u32) -> usize
+    requires { ⌜ Finishable (opensHeader kind) state k (now index) ⌝ }
+    ensures { λ r. ⌜ Finished (opensHeader kind) state k (now (index .entry)) (now (index .exit)) r ⌝ }
 {
-    let mut builder = state;
-    let mut k = 0;
-    let mut i = 0;
-    while i < n {
-        let kind = events[i * EVENT_WORDS];
-        let ends = opens_header(kind);
-        k = finish(index, k, ends, builder);
-        builder = stepped(builder, kind);
-        i += 1;
-    }
-    finish(index, k, true, builder);
-    builder
+    let ends = opens_header(kind);
+    finish(index, k, ends, state)
 }
 
-// The builder is lent to the walk and altered there: it is left as it is behind the first n events.
+// The builder is lent to the walk, and altered there with each of the first n events.
 pub fn walk(state: &mut IndexState, events: &[u32], n: usize, index: &mut [u8])
     requires { ⌜ Walkable (now state) (now events) n (now index) ⌝ }
     ensures { λ _. ⌜ (now (state .exit) ≡ stateBehind (now (state .entry)) (kindsFrom n 0 (now (events .entry)))) × (now (index .exit) ≡ indexBytes (headersIn n (now (events .entry))) ++ drop (entrySize * length (headersIn n (now (events .entry)))) (now (index .entry))) ⌝ }
 {
-    *state = walked(*state, events, n, index);
+    let mut k = 0;
+    let mut i = 0;
+    while i < n {
+        let kind = kind_at(events, i);
+        k = finish_before(index, k, *state, kind);
+        note(state, kind);
+        i += 1;
+    }
+    finish(index, k, true, *state);
 }

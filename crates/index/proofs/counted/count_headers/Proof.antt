@@ -1,10 +1,10 @@
 -- What was found and what is left is all.
 -- Made by ./proofs from Proof.tmpl: change that.
-use mathlib.Core.Path.{_≡_, refl, sym, _∙_}
+use mathlib.Core.Path.{_≡_, refl, sym, ap, _∙_}
 use Prim.Native.Nat.{_+_, _-_, _≤_}
 use native.Mathlib.Omega.{arith}
-use Rattle.index.specs.Headers.{oneIf}
-use Rattle.index.proofs.CountLaws.{headersLeft, count-on, count-end, count-start, one-small}
+use Rattle.index.specs.Headers.{opensHeader, oneIf}
+use Rattle.index.proofs.CountLaws.{event-held, headersLeft, count-on, count-end, count-start, one-small}
 use borrow.Author.Needs.{needs}
 use Rattle.index.proofs.counted.count_headers.Statement.{statement}
 use Rattle.index.proofs.counted.count_headers.Tie as tie
@@ -18,14 +18,8 @@ abbrev μ-loop : tie.MeasureT-loop
 loop-holds : tie.Need-loop-holds Inv-loop μ-loop
 loop-holds c = (omega arith, omega arith, omega arith)
 
-mul-kind : tie.Need-mul-kind Inv-loop μ-loop
-mul-kind c = search needs
-
-mul-kind-2 : tie.Need-mul-kind-2 Inv-loop μ-loop
-mul-kind-2 c = search needs
-
-shared-slice-read-kind : tie.Need-shared-slice-read-kind Inv-loop μ-loop
-shared-slice-read-kind c = search needs
+kind-at-requires : tie.Need-kind-at-requires Inv-loop μ-loop
+kind-at-requires c κs = event-held ((c .before .before .before .args) .n) ((c .before .loop) .i) ((c .before .before .before .args) .events .now) ((c .loop-test) .taken) (c .before .before .before .pre)
 
 opens-header-requires : tie.Need-opens-header-requires Inv-loop μ-loop
 opens-header-requires c κs = search needs
@@ -44,7 +38,7 @@ loop-less c = search needs
 
 loop-again : tie.Need-loop-again Inv-loop μ-loop
 loop-again c =
-    (omega (arith, (c .one-if) .ensures, count-on ((c .before .before .before .before .before .before .args) .n) ((c .before .before .before .before .loop) .i) ((c .before .before .before .before .before .before .args) .events .now) ((c .before .opens-header) .result) ((c .before .before .before .loop-test) .taken) (sym ((c .before .opens-header) .ensures)), (c .before .before .before .before .loop) .inv .0), omega (arith, (c .one-if) .ensures, one-small ((c .before .opens-header) .result), (c .before .before .before .before .loop) .inv .1), omega (arith, (c .before .before .before .loop-test) .taken))
+    (omega (arith, (c .one-if) .ensures, count-on ((c .before .before .before .before .before .before .args) .n) ((c .before .before .before .before .loop) .i) ((c .before .before .before .before .before .before .args) .events .now) ((c .before .opens-header) .result) ((c .before .before .before .loop-test) .taken) (sym ((c .before .opens-header) .ensures ∙ ap opensHeader ((c .before .before .kind-at) .ensures))), (c .before .before .before .before .loop) .inv .0), omega (arith, (c .one-if) .ensures, one-small ((c .before .opens-header) .result), (c .before .before .before .before .loop) .inv .1), omega (arith, (c .before .before .before .loop-test) .taken))
 
 returns : tie.Need-returns Inv-loop μ-loop
 returns c = omega (arith, (c .before .loop) .inv .0, count-end ((c .before .before .before .args) .n) ((c .before .loop) .i) ((c .before .before .before .args) .events .now) ((c .loop-test) .left), count-start ((c .before .before .before .args) .n) ((c .before .before .before .args) .events .now))
@@ -56,9 +50,7 @@ count-headers-spec =
     Inv-loop
     μ-loop
     loop-holds
-    mul-kind
-    mul-kind-2
-    shared-slice-read-kind
+    kind-at-requires
     opens-header-requires
     one-if-requires
     add-found

@@ -11,10 +11,10 @@ mul-put-entry : tie.Need-mul-put-entry
 mul-put-entry c = search needs
 
 sub-put-entry : tie.Need-sub-put-entry
-sub-put-entry c = search needs
+sub-put-entry c = omega (arith, (c .before .before .before .before .pre) .place)
 
 put-entry-requires : tie.Need-put-entry-requires
-put-entry-requires c κs = one-fits ((c .before .before .before .before .args) .k) ((c .before .before .before .before .args) .state) ((c .before .before .before .before .args) .index .now) ((c .before .before .before .before .args) .ends) ((c .before .before .if1) .taken) ((c .before .if2) .taken) ((c .before .before .before .before .pre) .0)
+put-entry-requires c κs = one-fits ((c .before .before .before .before .args) .k) ((c .before .before .before .before .args) .state) ((c .before .before .before .before .args) .index .now) ((c .before .before .before .before .args) .ends) ((c .before .before .if1) .taken) ((c .before .if2) .taken) (c .before .before .before .before .pre)
 
 add-result : tie.Need-add-result
 add-result c = search needs
