@@ -1,4 +1,4 @@
--- Past sixteens of plain bytes, then a byte a turn, or two at an escape.
+-- Past plain bytes, then a byte a turn, or two at an escape.
 -- Made by ./proofs from Proof.tmpl: change that.
 use mathlib.Core.Path.{refl, sym, _∙_}
 use mathlib.Core.Bool.{false}
