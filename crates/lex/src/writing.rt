@@ -10,6 +10,7 @@ use scan::lexer::process_token;
 use scan::literal::lex_literal_string;
 use scan::quotes::starts_three;
 use scan::sets::lex_comment;
+use scan::sets::lex_crlf;
 use scan::sets::lex_whitespace;
 use scan::table::code_table;
 use token::kind::Kind;
@@ -98,7 +99,7 @@ fn put_whitespace(text: &[u8], codes: &[u8], at: usize, records: &mut [u8], out:
     end
 }
 
-// Any, by the code of its first byte: what is neither usual nor a string or a comment is left to put_any.
+// Any, by the code of its first byte: whitespace that starts with a tab is left to put_any.
 fn put_token(text: &[u8], codes: &[u8], at: usize, records: &mut [u8], out: usize) -> usize
     requires { ⌜ at < length (now text) ⌝ }
     requires { ⌜ now codes ≡ codeTable ⌝ }
@@ -128,6 +129,11 @@ fn put_token(text: &[u8], codes: &[u8], at: usize, records: &mut [u8], out: usiz
     if b == b'#' {
         let end = lex_comment(text, at + 1);
         put(records, out, end - at, number_of(Kind::Comment));
+        return end;
+    }
+    if b == b'\r' {
+        let end = lex_crlf(text, at + 1);
+        put(records, out, end - at, number_of(Kind::Newline));
         return end;
     }
     put_any(text, at, records, out)

@@ -69,3 +69,17 @@ pub fn past_plain(text: &[u8], at: usize, x: u8, y: u8, z: u8) -> usize
     }
     i
 }
+
+// The same where a token is often over at once: nothing is looked for if the first byte is one of the three.
+pub fn past_plain_if_first(text: &[u8], at: usize, x: u8, y: u8, z: u8) -> usize
+    requires { ⌜ at ≤ length (now text) ⌝ }
+    ensures { λ r. ⌜ Passed (noneOf (x ∷ y ∷ z ∷ [])) (now (text .entry)) at r ⌝ }
+{
+    if at < text.len() {
+        let place = place_of(text[at], 0, x, y, z);
+        if place == 0 {
+            return at;
+        }
+    }
+    past_plain(text, at, x, y, z)
+}

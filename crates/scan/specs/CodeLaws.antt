@@ -10,7 +10,7 @@ use Rattle.token.specs.declared.kind.Kind.{Kind}
 use Rattle.token.specs.declared.kind.Kind.the-variants.{Dot, Equals, Comma, LeftSquareBracket, RightSquareBracket, LeftCurlyBracket, RightCurlyBracket, Newline}
 use Rattle.token.specs.Kinds.{numberOf}
 use Rattle.scan.specs.declared.start.Start.{Start}
-use Rattle.scan.specs.Bytes.{space, quotationMark, numberSign, apostrophe}
+use Rattle.scan.specs.Bytes.{carriageReturn, space, quotationMark, numberSign, apostrophe}
 use Rattle.scan.specs.Lexer.{startOf, tokenStart, wschar, piece, processToken}
 use Rattle.scan.specs.Codes.{codeOf, codesFrom, codeTable}
 
@@ -106,7 +106,7 @@ alone Start.Apostrophe b bs h = absurd (omega (arith, h))
 alone Start.QuotationMark b bs h = absurd (omega (arith, h))
 alone Start.Other b bs h = absurd (omega (arith, h))
 
--- the classes of four bytes
+-- the classes of five bytes
 pub space-start : (b : ℕ) → b ≡ space → startOf b ≡ Start.Wschar
 unfolding startOf
 space-start b e = rw e
@@ -122,3 +122,7 @@ apostrophe-start b e = rw e
 pub number-sign-start : (b : ℕ) → b ≡ numberSign → startOf b ≡ Start.CommentStartSymbol
 unfolding startOf
 number-sign-start b e = rw e
+
+pub carriage-return-start : (b : ℕ) → b ≡ carriageReturn → startOf b ≡ Start.CarriageReturn
+unfolding startOf
+carriage-return-start b e = rw e

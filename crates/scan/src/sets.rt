@@ -1,7 +1,7 @@
 // Where a token ends that goes on while its bytes are of a set: whitespace, a comment, an atom; and a newline.
 use places::is_at;
 use places::plain::NUL;
-use places::plain::past_plain;
+use places::plain::past_plain_if_first;
 ghost use mathlib.Core.Path.{_≡_};
 ghost use Prim.Native.Nat.{_≤_};
 ghost use lib.ListN.{length};
@@ -82,7 +82,7 @@ pub fn lex_comment(text: &[u8], at: usize) -> usize
     requires { ⌜ at ≤ length (now text) ⌝ }
     ensures { λ r. ⌜ Scanned lexComment (now (text .entry)) at r ⌝ }
 {
-    let mut i = past_plain(text, at, b'\r', b'\n', NUL);
+    let mut i = past_plain_if_first(text, at, b'\r', b'\n', NUL);
     while i < text.len() {
         let over = ends_comment(text[i]);
         if over {

@@ -2,7 +2,7 @@
 -- Made by ./proofs from Proof.tmpl: change that.
 use mathlib.Core.Path.{refl, sym, _∙_}
 use native.Mathlib.Omega.{arith}
-use Rattle.scan.specs.CodeLaws.{other-code, number-sign-start}
+use Rattle.scan.specs.CodeLaws.{other-code, number-sign-start, carriage-return-start}
 use Rattle.lex.specs.PutLaws.{put-is, put-alone}
 use borrow.Author.Needs.{needs}
 use Rattle.lex.proofs.writing.put_token.Statement.{statement}
@@ -100,14 +100,36 @@ returns-6 : tie.Need-returns-6
 returns-6 c =
     put-is _ _ _ _ _ (number-sign-start _ ((c .before .before .before .before .before .before .if6) .taken)) refl ((c .before .before .before .before .before .lex-comment) .ensures .is) ((c .before .before .before .before .before .lex-comment) .ensures .within) ((c .before .before .before .number-of2) .ensures) ((c .before .before .put3) .ensures)
 
-put-any-requires : tie.Need-put-any-requires
-put-any-requires c κs = ((c .before .before .before .before .before .before .before .before .before .before .before .before .pre) .0, (c .before .before .before .before .before .before .before .before .before .before .before .before .pre) .1 .1)
+add-lex-crlf : tie.Need-add-lex-crlf
+add-lex-crlf c = search needs
+
+lex-crlf-requires : tie.Need-lex-crlf-requires
+lex-crlf-requires c κs = omega (arith, (c .before .before .before .before .before .before .before .before .before .before .before .before .pre) .0)
+
+sub-put-3 : tie.Need-sub-put-3
+sub-put-3 c = omega (arith, (c .before .lex-crlf) .ensures .is)
+
+number-of-requires-3 : tie.Need-number-of-requires-3
+number-of-requires-3 c κs = search needs
+
+put-requires-4 : tie.Need-put-requires-4
+put-requires-4 c κs = (c .before .before .before .before .before .before .before .before .before .before .before .before .before .before .before .pre) .1 .1
 
 same-length-7 : tie.Need-same-length-7
 same-length-7 c = search needs
 
 returns-7 : tie.Need-returns-7
-returns-7 c = (c .before .before .put-any) .ensures
+returns-7 c =
+    put-is _ _ _ _ _ (carriage-return-start _ ((c .before .before .before .before .before .before .if7) .taken)) refl ((c .before .before .before .before .before .lex-crlf) .ensures .is) ((c .before .before .before .before .before .lex-crlf) .ensures .within) ((c .before .before .before .number-of3) .ensures) ((c .before .before .put4) .ensures)
+
+put-any-requires : tie.Need-put-any-requires
+put-any-requires c κs = ((c .before .before .before .before .before .before .before .before .before .before .before .before .before .pre) .0, (c .before .before .before .before .before .before .before .before .before .before .before .before .before .pre) .1 .1)
+
+same-length-8 : tie.Need-same-length-8
+same-length-8 c = search needs
+
+returns-8 : tie.Need-returns-8
+returns-8 c = (c .before .before .put-any) .ensures
 
 pub put-token-spec : {M : Type 1} → statement M
 put-token-spec =
@@ -143,6 +165,13 @@ put-token-spec =
     put-requires-3
     same-length-6
     returns-6
-    put-any-requires
+    add-lex-crlf
+    lex-crlf-requires
+    sub-put-3
+    number-of-requires-3
+    put-requires-4
     same-length-7
-    returns-7)
+    returns-7
+    put-any-requires
+    same-length-8
+    returns-8)
