@@ -16,11 +16,12 @@ use Rattle.token.specs.WritingLaws.{put-length, writtenFrom, written-record, wr
 use Rattle.utf8.specs.Utf8.{validUpTo}
 use Rattle.scan.specs.declared.lexer.Found.{Found}
 use Rattle.scan.specs.Lexer.{tokensFrom, tokensOf, baseOf}
-use Rattle.scan.specs.Finding.{IsToken}
+use Rattle.scan.specs.Finding.{IsToken, pieceAt}
 use Rattle.scan.specs.LexerLaws.{lexer-on, lexer-end, lexer-some}
 use Rattle.lex.specs.declared.Lexed.{Lexed}
 use Rattle.lex.specs.Refusals.{textTooLong, notUtf8, noRoomForTokens}
 use Rattle.lex.specs.Lexed.{LexOutcome, refused, lexed, lexOutcome}
+use Rattle.lex.specs.Put.{Put}
 
 -- a loop that counts: n tokens, and those still to come
 pub record Counted (s : List ℕ) (at₀ at n : ℕ) : Type 0 where
@@ -95,42 +96,32 @@ module _ {s : List ℕ} {at₀ at n : ℕ} {out₀ out : List ℕ} (x : Writes s
         ap length e ∙ put-length out n 0 (numberOf Eof) here-room ∙ x .keeps,
       )
 
--- a loop that writes, or only counts
-abbrev pub Wrote : Bool → List ℕ → ℕ → List ℕ → ℕ → ℕ → List ℕ → Type 0
-Wrote true s at₀ out₀ at n out = Writes s at₀ out₀ at n out
-Wrote false s at₀ out₀ at n out = out ≡ out₀
+-- the same with the place of the next record in the buffer
+pub record Placed (s : List ℕ) (at₀ : ℕ) (buffer₀ : List ℕ) (at out : ℕ) (buffer : List ℕ) : Type 0 where
+  pub n : ℕ
+  pub is : out ≡ 6 * n
+  pub writes : Writes s at₀ buffer₀ at n buffer
 
-pub record Passing (writing : Bool) (s : List ℕ) (at₀ : ℕ) (out₀ : List ℕ) (at n : ℕ) (out : List ℕ) : Type 0 where
-  pub counted : Counted s at₀ at n
-  pub wrote : Wrote writing s at₀ out₀ at n out
+pub placed-begun : (s : List ℕ) (at : ℕ) (buffer : List ℕ) → at ≤ length s → 6 * length (tokensFrom s at) ≤ length buffer → Placed s at buffer at 0 buffer
+placed-begun s at buffer h r = record { n = 0; is = omega arith; writes = writes-begun s at buffer h r }
 
-pub passing-begun : (writing : Bool) (s : List ℕ) (at : ℕ) (out : List ℕ) → at ≤ length s → (writing ≡ true → 6 * length (tokensFrom s at) ≤ length out) → Passing writing s at out at 0 out
-passing-begun true s at out h r = record { counted = counted-begun s at h; wrote = writes-begun s at out h (r refl) }
-passing-begun false s at out h r = record { counted = counted-begun s at h; wrote = refl }
+module _ {s : List ℕ} {at₀ at out : ℕ} {buffer₀ buffer : List ℕ} (x : Placed s at₀ buffer₀ at out buffer) where
+  pub placed-room : out + 6 ≤ length buffer
+  placed-room = let z = counted-room (x .writes .counted) (length buffer) (x .writes .room) in omega (arith, z, x .is)
 
-module _ {s : List ℕ} {at₀ at n : ℕ} {out₀ out : List ℕ} where
-  -- there is room for a token still to come
-  pub passing-room : (writing : Bool) → Passing writing s at₀ out₀ at n out → writing ≡ true → 6 * n + 6 ≤ length out
-  passing-room true x e = counted-room (x .counted) (length out) (x .wrote .room)
-  passing-room false x e = absurd (false≢true e)
+  pub placed-on : at < length s → (after : List ℕ) (end : ℕ) → Put s at buffer out after end → Placed s at₀ buffer₀ end (out + 6) after
+  placed-on h after end p =
+      record {
+        n = x .n + 1;
+        is = omega (arith, x .is);
+        writes = writes-on (x .writes) h (record { end = end; kind = pieceAt s at .kind }) (p .token) after (p .bytes (x .n) (x .is));
+      }
 
-  pub passing-on : (writing : Bool) → Passing writing s at₀ out₀ at n out → at < length s → (f : Found) → IsToken s at f → (out′ : List ℕ) → out′ ≡ cond writing (putAt out n (f .end - at) (numberOf (f .kind))) out → Passing writing s at₀ out₀ (f .end) (n + 1) out′
-  passing-on true x h f t out′ e = record { counted = counted-on (x .counted) h f t; wrote = writes-on (x .wrote) h f t out′ e }
-  passing-on false x h f t out′ e = record { counted = counted-on (x .counted) h f t; wrote = e ∙ x .wrote }
+  pub placed-end : length s ≤ at → out / 6 + 1 ≡ length (tokensFrom s at₀)
+  placed-end h = let z = counted-end (x .writes .counted) h in omega (arith, z, x .is)
 
-  pub passing-end : (writing : Bool) → Passing writing s at₀ out₀ at n out → length s ≤ at → (out′ : List ℕ) → out′ ≡ cond writing (putAt out n 0 (numberOf Eof)) out
-      → (out′ ≡ cond writing (recordsOf (tokensFrom s at₀) ++ drop (6 * length (tokensFrom s at₀)) out₀) out₀) × (length out′ ≡ length out₀)
-  passing-end true x h out′ e = writes-end (x .wrote) h out′ e
-  passing-end false x h out′ e = (e ∙ x .wrote, ap length (e ∙ x .wrote))
-
-  pub passing-keeps : (writing : Bool) → Passing writing s at₀ out₀ at n out → length out ≡ length out₀
-  passing-keeps true x = x .wrote .keeps
-  passing-keeps false x = ap length (x .wrote)
-
--- one record keeps the length
-pub token-keeps : (writing : Bool) (out : List ℕ) (n size kind : ℕ) → (writing ≡ true → 6 * n + 6 ≤ length out) → length (cond writing (putAt out n size kind) out) ≡ length out
-token-keeps true out n size kind h = put-length out n size kind (h refl)
-token-keeps false out n size kind h = refl
+  pub placed-all : length s ≤ at → (after : List ℕ) (number : ℕ) → number ≡ numberOf Eof → ((n : ℕ) → out ≡ 6 * n → after ≡ putAt buffer n 0 number) → (after ≡ recordsOf (tokensFrom s at₀) ++ drop (6 * length (tokensFrom s at₀)) buffer₀) × (length after ≡ length buffer₀)
+  placed-all h after number e b = writes-end (x .writes) h after (b (x .n) (x .is) ∙ ap (putAt buffer (x .n) 0) e)
 
 -- how many there are, if that is more than the room
 module _ (room total n : ℕ) (e : n ≡ total) where

@@ -1,16 +1,15 @@
 // From the bytes of a text to its token records.
 pub mod refusals;
 pub mod theorems;
+pub mod writing;
 
 use crate::refusals::NO_ROOM_FOR_TOKENS;
 use crate::refusals::NOT_UTF8;
 use crate::refusals::TEXT_TOO_LONG;
+use crate::writing::write;
 use places::is_at;
 use scan::lexer::process_token;
 use token::checked::MAX_END;
-use token::kind::Kind;
-use token::kind::number_of;
-use token::writing::put_record;
 use utf8::valid_up_to;
 ghost use mathlib.Core.Path.{_≡_};
 ghost use mathlib.Core.Bool.{cond, true};
@@ -45,46 +44,30 @@ fn base_of(text: &[u8]) -> usize
     0
 }
 
-// Record n, where tokens are written.
-fn put_token(records: &mut [u8], writing: bool, n: usize, size: usize, kind: Kind)
-    requires { ⌜ (writing ≡ true → 6 * n + 6 ≤ length (now records)) ⌝ }
-    ensures { λ _. ⌜ now (records .exit) ≡ cond writing (putAt (now (records .entry)) n size (numberOf kind)) (now (records .entry)) ⌝ }
-{
-    if writing {
-        put_record(records, n, size, number_of(kind));
-    }
-}
-
-// The tokens from `base` on: how many they are. Their records are written, or only counted.
-fn pass(text: &[u8], base: usize, records: &mut [u8], writing: bool) -> usize
+// How many tokens there are from `base` on.
+fn count(text: &[u8], base: usize) -> usize
     requires { ⌜ base ≤ length (now text) ⌝ }
-    requires { ⌜ (writing ≡ true → 6 * length (tokensFrom (now text) base) ≤ length (now records)) ⌝ }
-    ensures { λ r. ⌜ (r ≡ length (tokensFrom (now (text .entry)) base)) × (now (records .exit) ≡ cond writing (recordsOf (tokensFrom (now (text .entry)) base) ++ drop (6 * length (tokensFrom (now (text .entry)) base)) (now (records .entry))) (now (records .entry))) ⌝ }
+    ensures { λ r. ⌜ r ≡ length (tokensFrom (now (text .entry)) base) ⌝ }
 {
     let mut at = base;
     let mut n = 0;
     while at < text.len() {
         let found = process_token(text, at);
-        let end = found.end;
-        let kind = found.kind;
-        put_token(records, writing, n, end - at, kind);
-        at = end;
+        at = found.end;
         n += 1;
     }
-    put_token(records, writing, n, 0, Kind::Eof);
     n + 1
 }
 
 // How many tokens there are from `base` on, if that is more than there is room for; else 0. There are at most one more than bytes.
-fn beyond_room(text: &[u8], base: usize, records: &mut [u8]) -> usize
+fn beyond_room(text: &[u8], base: usize, room: usize) -> usize
     requires { ⌜ base ≤ length (now text) ⌝ }
-    ensures { λ r. ⌜ (r ≡ cond (ltb (length (now (records .entry)) / 6) (length (tokensFrom (now (text .entry)) base))) (length (tokensFrom (now (text .entry)) base)) 0) × (now (records .exit) ≡ now (records .entry)) ⌝ }
+    ensures { λ r. ⌜ r ≡ cond (ltb room (length (tokensFrom (now (text .entry)) base))) (length (tokensFrom (now (text .entry)) base)) 0 ⌝ }
 {
-    let room = records.len() / 6;
     if text.len() < room {
         return 0;
     }
-    let n = pass(text, base, records, false);
+    let n = count(text, base);
     if room < n {
         return n;
     }
@@ -114,11 +97,11 @@ pub fn lex(text: &[u8], records: &mut [u8]) -> Lexed
         return refuse(NOT_UTF8, valid, 0);
     }
     let base = base_of(text);
-    let beyond = beyond_room(text, base, records);
+    let beyond = beyond_room(text, base, records.len() / 6);
     if 0 < beyond {
         return refuse(NO_ROOM_FOR_TOKENS, 0, beyond);
     }
-    let n = pass(text, base, records, true);
+    let n = write(text, base, records);
     Lexed {
         refusal: 0,
         place: 0,

@@ -7,8 +7,8 @@ use native.Mathlib.Omega.{arith}
 use native.Mathlib.Numerals.{add-one}
 use lib.ListN.{length, drop, getD, length-drop, drop-of-length-le}
 use lib.Seq.{drop-cons, drop-drop}
-use lib.Dec.{eqb}
-use borrow.Author.Tests.{eq-eqb, ne-eqb, eqb-true}
+use lib.Dec.{eqb, ltb}
+use borrow.Author.Tests.{eq-eqb, ne-eqb, eqb-true, ltb-true, ltb-false}
 use Rattle.places.specs.Places.{Scanned, peeks, allOf, Passed}
 
 -- the byte at a place, and those behind it
@@ -106,11 +106,11 @@ module _ (set : ℕ → Bool) where
       by-test true e r f = let z = takes b bs e in let y = f r in omega (arith, z, y)
       by-test false e r f = absurd (false≢true r)
 
--- a loop that counts the bytes of the set among sixteen: so many of the first k
+-- a loop that counts the bytes of the set among thirty-two: so many of the first k
 pub record Tallied (set : ℕ → Bool) (s : List ℕ) (at count k : ℕ) : Type 0 where
-  pub most : k ≤ 16
+  pub most : k ≤ 32
   pub few : count ≤ k
-  pub same : cond (eqb count k) (allOf set (16 - k) (drop (at + k) s)) false ≡ allOf set 16 (drop at s)
+  pub same : cond (eqb count k) (allOf set (32 - k) (drop (at + k) s)) false ≡ allOf set 32 (drop at s)
 
 pub one-most : (set : ℕ → Bool) (b : ℕ) → cond (set b) 1 0 ≤ 1
 one-most set b = by-test (set b)
@@ -135,7 +135,7 @@ cond-self true = refl
 cond-self false = refl
 
 module _ {set : ℕ → Bool} {s : List ℕ} {at count k : ℕ} (x : Tallied set s at count k) where
-  pub tally-on : k < 16 → at + k < length s → (n : ℕ) → n ≡ cond (set (getD s (at + k) 0)) 1 0 → Tallied set s at (count + n) (k + 1)
+  pub tally-on : k < 32 → at + k < length s → (n : ℕ) → n ≡ cond (set (getD s (at + k) 0)) 1 0 → Tallied set s at (count + n) (k + 1)
   tally-on l h n e =
       record {
         most = omega (arith, l);
@@ -143,26 +143,26 @@ module _ {set : ℕ → Bool} {s : List ℕ} {at count k : ℕ} (x : Tallied set
         same = by-test (set (getD s (at + k) 0)) refl e;
       }
     where
-      first : allOf set (16 - k) (drop (at + k) s) ≡ cond (set (getD s (at + k) 0)) (allOf set (16 - (k + 1)) (drop (at + (k + 1)) s)) false
+      first : allOf set (32 - k) (drop (at + k) s) ≡ cond (set (getD s (at + k) 0)) (allOf set (32 - (k + 1)) (drop (at + (k + 1)) s)) false
       first =
-          let q : 16 - k ≡ suc (16 - (k + 1)) = omega (arith, l) in
+          let q : 32 - k ≡ suc (32 - (k + 1)) = omega (arith, l) in
           let r : at + k + 1 ≡ at + (k + 1) = omega arith in
           ap (λ (m : ℕ). allOf set m (drop (at + k) s)) q
-          ∙ ap (allOf set (suc (16 - (k + 1)))) (here s (at + k) h)
-          ∙ all-first set (16 - (k + 1)) (getD s (at + k) 0) (drop (at + k + 1) s)
-          ∙ ap (λ (m : ℕ). cond (set (getD s (at + k) 0)) (allOf set (16 - (k + 1)) (drop m s)) false) r
+          ∙ ap (allOf set (suc (32 - (k + 1)))) (here s (at + k) h)
+          ∙ all-first set (32 - (k + 1)) (getD s (at + k) 0) (drop (at + k + 1) s)
+          ∙ ap (λ (m : ℕ). cond (set (getD s (at + k) 0)) (allOf set (32 - (k + 1)) (drop m s)) false) r
 
-      by-test : (t : Bool) → set (getD s (at + k) 0) ≡ t → n ≡ cond t 1 0 → cond (eqb (count + n) (k + 1)) (allOf set (16 - (k + 1)) (drop (at + (k + 1)) s)) false ≡ allOf set 16 (drop at s)
+      by-test : (t : Bool) → set (getD s (at + k) 0) ≡ t → n ≡ cond t 1 0 → cond (eqb (count + n) (k + 1)) (allOf set (32 - (k + 1)) (drop (at + (k + 1)) s)) false ≡ allOf set 32 (drop at s)
       by-test true p q =
           let r : count + n ≡ count + 1 = omega (arith, q) in
           rw (r, both-more count k (eqb count k) refl) (sym (ap (λ (t : Bool). cond (eqb count k) t false) (first ∙ rw p)) ∙ x .same)
       by-test false p q =
           rw (ne-eqb (count + n) (k + 1) (λ y. omega (arith, y, q, x .few))) (sym (cond-false (eqb count k)) ∙ sym (ap (λ (t : Bool). cond (eqb count k) t false) (first ∙ rw p)) ∙ x .same)
 
-  pub tally-end : 16 ≤ k → eqb count 16 ≡ allOf set 16 (drop at s)
+  pub tally-end : 32 ≤ k → eqb count 32 ≡ allOf set 32 (drop at s)
   tally-end h =
-      let e : 16 - k ≡ 0 = omega (arith, h) in
-      let z : 16 ≡ k = omega (arith, h, x .most) in
+      let e : 32 - k ≡ 0 = omega (arith, h) in
+      let z : 32 ≡ k = omega (arith, h, x .most) in
       ap (eqb count) z
       ∙ cond-self (eqb count k)
       ∙ ap (λ (t : Bool). cond (eqb count k) t false) (sym (ap (λ (m : ℕ). allOf set m (drop (at + k) s)) e ∙ all-none set (drop (at + k) s)))
@@ -193,3 +193,62 @@ module _ {set : ℕ → Bool} {s : List ℕ} where
       let l : j - i ≤ length (drop i s) = omega (arith, length-drop i s, x .within) in
       on (begun {rule = rule} {s = s} {i = i} (omega (arith, x .up, x .within))) (j - i) j u (x .within)
       (all-taken set rule takes (j - i) (drop i s) l (x .each (j - i) u) ∙ ap (λ (bs : List ℕ). j - i + rule bs) w)
+
+  -- and on from there
+  pub passed-to : {i₀ i j : ℕ} → Passed set s i₀ i → Passed set s i j → Passed set s i₀ j
+  passed-to {i₀} {i} {j} x y =
+      let e : j ≡ i + (j - i) = omega (arith, y .up) in
+      passed-on x (j - i) j e (y .within) (y .each (j - i) e)
+
+-- a loop that looks for the first of thirty-two bytes that is not of the set: of the first k those before it are
+pub record Led (set : ℕ → Bool) (s : List ℕ) (at first k : ℕ) : Type 0 where
+  pub most : k ≤ 32
+  pub low : first ≤ 32
+  pub each : (n : ℕ) → n ≤ k → n ≤ first → allOf set n (drop at s) ≡ true
+
+least-low : (a b : ℕ) → (cond (ltb b a) b a ≤ a) × (cond (ltb b a) b a ≤ b)
+least-low a b = by-test (ltb b a) refl
+  where
+    by-test : (t : Bool) → ltb b a ≡ t → (cond t b a ≤ a) × (cond t b a ≤ b)
+    by-test true e = let z = ltb-true b a e in (omega (arith, z), omega arith)
+    by-test false e = let z = ltb-false b a e in (omega arith, omega (arith, z))
+
+module _ {set : ℕ → Bool} {s : List ℕ} {at : ℕ} where
+  pub led-begun : Led set s at 32 0
+  led-begun = record { most = omega arith; low = omega arith; each = λ n h l. let z : n ≡ 0 = omega (arith, h) in rw z (all-none set (drop at s)) }
+
+  module _ {first k : ℕ} (x : Led set s at first k) where
+    -- k bytes, and the next
+    one-more : at + k < length s → set (getD s (at + k) 0) ≡ true → k ≤ first → allOf set (k + 1) (drop at s) ≡ true
+    one-more h e l =
+        let d : drop k (drop at s) ≡ getD s (at + k) 0 ∷ drop (at + k + 1) s = drop-drop k at s ∙ here s (at + k) h in
+        let o : allOf set 1 (getD s (at + k) 0 ∷ drop (at + k + 1) s) ≡ true = all-first set 0 _ _ ∙ rw (e, all-none set (drop (at + k + 1) s)) in
+        all-more set k 1 (drop at s) (x .each k (omega arith) l) (ap (allOf set 1) d ∙ o)
+
+    pub led-on : k < 32 → at + k < length s → (place least : ℕ) → place ≡ cond (set (getD s (at + k) 0)) 32 k → least ≡ cond (ltb place first) place first → Led set s at least (k + 1)
+    led-on l h place least p q =
+        let low = least-low first place in
+        record {
+          most = omega (arith, l);
+          low = omega (arith, q, low .0, x .low);
+          each = λ n m f. by-place (set (getD s (at + k) 0)) refl p n m (omega (arith, q, low .0, f)) (omega (arith, q, low .1, f));
+        }
+      where
+        by-far : (n : ℕ) → n ≤ k + 1 → n ≤ first → set (getD s (at + k) 0) ≡ true → (t : Bool) → ltb k n ≡ t → allOf set n (drop at s) ≡ true
+        by-far n m f e true r =
+            let z = ltb-true k n r in
+            let y : n ≡ k + 1 = omega (arith, z, m) in
+            rw y (one-more h e (omega (arith, y, f)))
+        by-far n m f e false r = x .each n (ltb-false k n r) f
+
+        by-place : (t : Bool) → set (getD s (at + k) 0) ≡ t → place ≡ cond t 32 k → (n : ℕ) → n ≤ k + 1 → n ≤ first → n ≤ place → allOf set n (drop at s) ≡ true
+        by-place true e y n m f g = by-far n m f e (ltb k n) refl
+        by-place false e y n m f g = x .each n (omega (arith, y, g)) f
+
+    pub led-end : 32 ≤ k → at + 32 ≤ length s → Passed set s at (at + first)
+    led-end h w =
+        record {
+          up = omega arith;
+          within = omega (arith, x .low, w);
+          each = λ n e. x .each n (omega (arith, e, x .low, h)) (omega (arith, e));
+        }

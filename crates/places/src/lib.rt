@@ -1,9 +1,6 @@
 // Looking through a text from a place on: a byte at a place, and bytes that a token goes on with whatever they are next to, passed
-// sixteen at a time. The sets of these are written out, so that the compiler compares sixteen bytes at once.
-pub mod comment;
-pub mod literal;
-pub mod ml_basic;
-pub mod ml_literal;
+// thirty-two at a time.
+pub mod plain;
 
 ghost use mathlib.Core.Path.{_≡_};
 ghost use lib.ListN.{drop};

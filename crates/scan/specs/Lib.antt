@@ -1,7 +1,9 @@
 pub mod Bytes
 pub mod Lexer
+pub mod Codes
 pub mod Finding
 pub mod ScanLaws
 pub mod TokenLaws
 pub mod LexerLaws
 pub mod ShortLaws
+pub mod CodeLaws

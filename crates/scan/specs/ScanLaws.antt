@@ -9,7 +9,7 @@ use lib.Seq.{drop-drop}
 use lib.Dec.{eqb}
 use borrow.Author.Tests.{eqb-true, ne-eqb}
 use Rattle.places.specs.Places.{isByte, peeks, startsWith, noneOf}
-use Rattle.places.specs.Plain.{inComment, inLiteral, inMlLiteral, inMlBasic}
+use Rattle.places.specs.Plain.{inComment, inLiteral, inMlLiteral, inBasic, inMlBasic}
 use Rattle.places.specs.PlaceLaws.{here, peeks-within, dropped, dropped-two, dropped-three}
 use Rattle.scan.specs.Bytes.{lineFeed, carriageReturn, quotationMark, apostrophe, backslash}
 use Rattle.scan.specs.Lexer.{until, endsComment, threeOf, upToTwo, escapable, takesNext, taken, lexComment, lexLiteralString, lexBasicString, lexMlLiteralString, lexMlBasicString}
@@ -180,11 +180,13 @@ not-rest x xs b e = by-test (eqb b x) e
 module _ (b : ℕ) (bs : List ℕ) where
   pub comment-passes : inComment b ≡ true → lexComment (b ∷ bs) ≡ suc (lexComment bs)
   unfolding until
-  comment-passes e = rw (not-first carriageReturn (lineFeed ∷ []) b e, not-first lineFeed [] b (not-rest carriageReturn (lineFeed ∷ []) b e))
+  comment-passes e =
+      rw (not-first carriageReturn (lineFeed ∷ 0 ∷ []) b e, not-first lineFeed (0 ∷ []) b (not-rest carriageReturn (lineFeed ∷ 0 ∷ []) b e))
 
   pub literal-passes : inLiteral b ≡ true → lexLiteralString (b ∷ bs) ≡ suc (lexLiteralString bs)
   unfolding lexLiteralString
-  literal-passes e = rw (not-first apostrophe (lineFeed ∷ []) b e, not-first lineFeed [] b (not-rest apostrophe (lineFeed ∷ []) b e))
+  literal-passes e =
+      rw (not-first apostrophe (lineFeed ∷ 0 ∷ []) b e, not-first lineFeed (0 ∷ []) b (not-rest apostrophe (lineFeed ∷ 0 ∷ []) b e))
 
   three-not : (q : ℕ) → eqb b q ≡ false → startsWith (threeOf q) (b ∷ bs) ≡ false
   unfolding peeks
@@ -192,8 +194,15 @@ module _ (b : ℕ) (bs : List ℕ) where
 
   pub ml-literal-passes : inMlLiteral b ≡ true → lexMlLiteralString (b ∷ bs) ≡ suc (lexMlLiteralString bs)
   unfolding lexMlLiteralString
-  ml-literal-passes e = rw (three-not apostrophe (not-first apostrophe [] b e))
+  ml-literal-passes e = rw (three-not apostrophe (not-first apostrophe (0 ∷ 127 ∷ []) b e))
+
+  pub basic-passes : inBasic b ≡ true → lexBasicString false (b ∷ bs) ≡ suc (lexBasicString false bs)
+  unfolding lexBasicString
+  basic-passes e =
+      let r : noneOf (backslash ∷ lineFeed ∷ []) b ≡ true = not-rest quotationMark (backslash ∷ lineFeed ∷ []) b e in
+      rw (not-first quotationMark (backslash ∷ lineFeed ∷ []) b e, not-first lineFeed [] b (not-rest backslash (lineFeed ∷ []) b r), not-first backslash (lineFeed ∷ []) b r)
 
   pub ml-basic-passes : inMlBasic b ≡ true → lexMlBasicString false (b ∷ bs) ≡ suc (lexMlBasicString false bs)
   unfolding lexMlBasicString
-  ml-basic-passes e = rw (three-not quotationMark (not-first quotationMark (backslash ∷ []) b e), not-first backslash [] b (not-rest quotationMark (backslash ∷ []) b e))
+  ml-basic-passes e =
+      rw (three-not quotationMark (not-first quotationMark (backslash ∷ 0 ∷ []) b e), not-first backslash (0 ∷ []) b (not-rest quotationMark (backslash ∷ 0 ∷ []) b e))

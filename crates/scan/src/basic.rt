@@ -1,6 +1,9 @@
 // Where a basic string ends.
 use crate::quotes::starts_three;
 use crate::quotes::up_to_two;
+use places::plain::NUL;
+use places::plain::past_plain;
+use places::plain::past_plain_if_first;
 ghost use mathlib.Core.Path.{_≡_};
 ghost use mathlib.Core.Bool.{false};
 ghost use Prim.Native.Nat.{_≤_};
@@ -39,7 +42,7 @@ pub fn lex_basic_string(text: &[u8], at: usize) -> usize
     requires { ⌜ at ≤ length (now text) ⌝ }
     ensures { λ r. ⌜ Scanned (λ bs. lexBasicString false bs) (now (text .entry)) at r ⌝ }
 {
-    let mut i = at;
+    let mut i = past_plain(text, at, b'"', b'\\', b'\n');
     while i < text.len() {
         let b = text[i];
         if b == b'"' {
@@ -57,7 +60,7 @@ pub fn lex_ml_basic_string(text: &[u8], at: usize) -> usize
     requires { ⌜ at ≤ length (now text) ⌝ }
     ensures { λ r. ⌜ Scanned (λ bs. lexMlBasicString false bs) (now (text .entry)) at r ⌝ }
 {
-    let mut i = places::ml_basic::past_plain(text, at);
+    let mut i = past_plain_if_first(text, at, b'"', b'\\', NUL);
     while i < text.len() {
         if starts_three(text, i, b'"') {
             return up_to_two(text, i + 3, b'"');

@@ -1,12 +1,14 @@
 // Where a token ends that goes on while its bytes are of a set: whitespace, a comment, an atom; and a newline.
 use places::is_at;
+use places::plain::NUL;
+use places::plain::past_plain_if_first;
 ghost use mathlib.Core.Path.{_≡_};
 ghost use Prim.Native.Nat.{_≤_};
 ghost use lib.ListN.{length};
 ghost use Rattle.places.specs.Places.{Scanned};
 ghost use Rattle.scan.specs.Lexer.{endsWhitespace, endsComment, endsAtom, lexWhitespace, lexComment, lexCrlf, lexAtom};
 
-// The sets go by the byte itself and not by its class: the compiler makes few tests of bits of that.
+// The sets go by the byte itself. Where records are written, whitespace and atoms go by a table (codes.rt).
 fn ends_whitespace(b: u8) -> bool
     ensures { λ r. ⌜ r ≡ endsWhitespace b ⌝ }
 {
@@ -80,7 +82,7 @@ pub fn lex_comment(text: &[u8], at: usize) -> usize
     requires { ⌜ at ≤ length (now text) ⌝ }
     ensures { λ r. ⌜ Scanned lexComment (now (text .entry)) at r ⌝ }
 {
-    let mut i = places::comment::past_plain(text, at);
+    let mut i = past_plain_if_first(text, at, b'\r', b'\n', NUL);
     while i < text.len() {
         let over = ends_comment(text[i]);
         if over {

@@ -109,30 +109,30 @@ fn ascii(b: u8) -> u8
     0
 }
 
-// Whether the sixteen bytes from `at` on are ASCII. They are counted, so that the compiler takes them at once.
-fn sixteen_ascii(text: &[u8], at: usize) -> bool
-    requires { ⌜ at + 16 ≤ length (now text) ⌝ }
-    ensures { λ r. ⌜ r ≡ allOf isAscii 16 (drop at (now (text .entry))) ⌝ }
+// Whether the thirty-two bytes from `at` on are ASCII. They are counted, so that the compiler takes them at once.
+fn thirty_two_ascii(text: &[u8], at: usize) -> bool
+    requires { ⌜ at + 32 ≤ length (now text) ⌝ }
+    ensures { λ r. ⌜ r ≡ allOf isAscii 32 (drop at (now (text .entry))) ⌝ }
 {
     let mut count: u8 = 0;
     let mut k = 0;
-    while k < 16 {
+    while k < 32 {
         count += ascii(text[at + k]);
         k += 1;
     }
-    count == 16
+    count == 32
 }
 
-// Past ASCII bytes, sixteen at a time.
-fn past_sixteens(text: &[u8], at: usize) -> usize
+// Past ASCII bytes, thirty-two at a time.
+fn past_ascii_by_thirty_two(text: &[u8], at: usize) -> usize
     requires { ⌜ at ≤ length (now text) ⌝ }
     ensures { λ r. ⌜ Passed isAscii (now (text .entry)) at r ⌝ }
 {
     let mut i = at;
-    while 16 <= text.len() - i {
-        let all = sixteen_ascii(text, i);
+    while 32 <= text.len() - i {
+        let all = thirty_two_ascii(text, i);
         if all {
-            i += 16;
+            i += 32;
         } else {
             return i;
         }
@@ -140,12 +140,12 @@ fn past_sixteens(text: &[u8], at: usize) -> usize
     i
 }
 
-// Past all ASCII bytes: what is left of them behind the sixteens is one by one.
+// Past all ASCII bytes: what is left of them behind these is one by one.
 fn past_ascii(text: &[u8], at: usize) -> usize
     requires { ⌜ at ≤ length (now text) ⌝ }
     ensures { λ r. ⌜ Passed isAscii (now (text .entry)) at r ⌝ }
 {
-    let mut i = past_sixteens(text, at);
+    let mut i = past_ascii_by_thirty_two(text, at);
     while i < text.len() {
         if text[i] < 128 {
             i += 1;

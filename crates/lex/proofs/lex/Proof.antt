@@ -28,33 +28,26 @@ base-of-requires : tie.Need-base-of-requires
 base-of-requires c κs = search needs
 
 beyond-room-requires : tie.Need-beyond-room-requires
-beyond-room-requires c κs = omega (arith, ((c .before .base-of) .ensures), base-within ((c .before .before .before .before .before .before .before .args) .text .now))
+beyond-room-requires c κs = omega (arith, ((c .base-of) .ensures), base-within ((c .before .before .before .before .before .before .args) .text .now))
 
 refuse-requires-3 : tie.Need-refuse-requires-3
 refuse-requires-3 c κs = search needs
 
+returns-3 : tie.Need-returns-3
+returns-3 c = ap (λ (r : Lexed). record { answer = r; buffer = (c .before .before .before .before .before .before .before .before .before .args) .records .now }) ((c .refuse3) .ensures) ∙ sym (no-room ((c .before .before .before .before .before .before .before .before .before .args) .text .now) ((c .before .before .before .before .before .before .before .before .before .args) .records .now) ((c .before .before .before .before .before .before .if1) .left) _ ((c .before .before .before .before .before .valid-up-to) .ensures) ((c .before .before .before .before .if2) .left) _ ((c .before .before .before .base-of) .ensures) _ ((c .before .before .beyond-room) .ensures) ((c .before .if3) .taken))
+
+write-requires : tie.Need-write-requires
+write-requires c κs =
+    (omega (arith, ((c .before .before .before .base-of) .ensures), base-within ((c .before .before .before .before .before .before .before .before .before .args) .text .now)), with-room ((c .before .before .before .before .before .before .before .before .before .args) .text .now) ((c .before .before .before .before .before .before .before .before .before .args) .records .now) ((c .before .before .before .before .before .before .if1) .left) _ ((c .before .before .before .before .before .valid-up-to) .ensures) ((c .before .before .before .before .if2) .left) _ ((c .before .before .before .base-of) .ensures) _ ((c .before .before .beyond-room) .ensures) ((c .before .if3) .left))
+
+cast-t12 : tie.Need-cast-t12
+cast-t12 c = omega (arith, ((c .before .before .before .before .before .before .base-of) .ensures), base-small ((c .before .before .before .before .before .before .before .before .before .before .before .before .args) .text .now))
+
 same-length : tie.Need-same-length
 same-length c = search needs
 
-returns-3 : tie.Need-returns-3
-returns-3 c =
-    rw ((c .before .before .before .before .beyond-room) .ensures .1) (ap (λ (r : Lexed). record { answer = r; buffer = (c .before .before .before .before .before .before .before .before .before .before .before .before .args) .records .now }) ((c .refuse3) .ensures) ∙ sym (no-room ((c .before .before .before .before .before .before .before .before .before .before .before .before .args) .text .now) ((c .before .before .before .before .before .before .before .before .before .before .before .before .args) .records .now) ((c .before .before .before .before .before .before .before .before .before .if1) .left) _ ((c .before .before .before .before .before .before .before .before .valid-up-to) .ensures) ((c .before .before .before .before .before .before .before .if2) .left) _ ((c .before .before .before .before .before .before .base-of) .ensures) _ ((c .before .before .before .before .beyond-room) .ensures .0) ((c .before .if3) .taken)))
-
-pass-requires : tie.Need-pass-requires
-pass-requires c κs = (
-  omega (arith, ((c .before .before .before .before .before .before .base-of) .ensures), base-within ((c .before .before .before .before .before .before .before .before .before .before .before .before .args) .text .now)),
-  λ e. rw ((c .before .before .before .before .beyond-room) .ensures .1) (with-room ((c .before .before .before .before .before .before .before .before .before .before .before .before .args) .text .now) ((c .before .before .before .before .before .before .before .before .before .before .before .before .args) .records .now) ((c .before .before .before .before .before .before .before .before .before .if1) .left) _ ((c .before .before .before .before .before .before .before .before .valid-up-to) .ensures) ((c .before .before .before .before .before .before .before .if2) .left) _ ((c .before .before .before .before .before .before .base-of) .ensures) _ ((c .before .before .before .before .beyond-room) .ensures .0) ((c .before .if3) .left)),
-)
-
-cast-t13 : tie.Need-cast-t13
-cast-t13 c = omega (arith, ((c .before .before .before .before .before .before .before .before .before .base-of) .ensures), base-small ((c .before .before .before .before .before .before .before .before .before .before .before .before .before .before .before .args) .text .now))
-
-same-length-2 : tie.Need-same-length-2
-same-length-2 c = search needs
-
 returns-4 : tie.Need-returns-4
-returns-4 c =
-    all-lexed ((c .before .before .before .before .before .before .before .before .before .before .before .before .before .before .before .args) .text .now) ((c .before .before .before .before .before .before .before .before .before .before .before .before .before .before .before .args) .records .now) ((c .before .before .before .before .before .before .before .before .before .before .before .before .if1) .left) _ ((c .before .before .before .before .before .before .before .before .before .before .before .valid-up-to) .ensures) ((c .before .before .before .before .before .before .before .before .before .before .if2) .left) _ ((c .before .before .before .before .before .before .before .before .before .base-of) .ensures) _ ((c .before .before .before .before .before .before .before .beyond-room) .ensures .0) ((c .before .before .before .before .if3) .left) _ _ ((c .before .before .pass) .ensures .0) ((c .before .before .pass) .ensures .1 ∙ rw ((c .before .before .before .before .before .before .before .beyond-room) .ensures .1))
+returns-4 c = all-lexed ((c .before .before .before .before .before .before .before .before .before .before .before .before .args) .text .now) ((c .before .before .before .before .before .before .before .before .before .before .before .before .args) .records .now) ((c .before .before .before .before .before .before .before .before .before .if1) .left) _ ((c .before .before .before .before .before .before .before .before .valid-up-to) .ensures) ((c .before .before .before .before .before .before .before .if2) .left) _ ((c .before .before .before .before .before .before .base-of) .ensures) _ ((c .before .before .before .before .before .beyond-room) .ensures) ((c .before .before .before .before .if3) .left) _ _ ((c .before .before .write) .ensures .0) ((c .before .before .write) .ensures .1)
 
 pub lex-spec : {M : Type 1} → statement M
 lex-spec =
@@ -68,9 +61,8 @@ lex-spec =
     base-of-requires
     beyond-room-requires
     refuse-requires-3
-    same-length
     returns-3
-    pass-requires
-    cast-t13
-    same-length-2
+    write-requires
+    cast-t12
+    same-length
     returns-4)

@@ -1,4 +1,4 @@
--- A byte a turn, behind the sixteens.
+-- A byte a turn, behind the thirty-twos.
 -- Made by ./proofs from Proof.tmpl: change that.
 use mathlib.Core.Path.{refl}
 use native.Mathlib.Omega.{arith}
@@ -17,11 +17,11 @@ Inv-loop text at i₀ i = Passed isAscii text at i
 abbrev μ-loop : tie.MeasureT-loop
 μ-loop text at i₀ i = length text - i
 
-past-sixteens-requires : tie.Need-past-sixteens-requires Inv-loop μ-loop
-past-sixteens-requires c κs = search needs
+past-ascii-by-thirty-two-requires : tie.Need-past-ascii-by-thirty-two-requires Inv-loop μ-loop
+past-ascii-by-thirty-two-requires c κs = search needs
 
 loop-holds : tie.Need-loop-holds Inv-loop μ-loop
-loop-holds c = (c .past-sixteens) .ensures
+loop-holds c = (c .past-ascii-by-thirty-two) .ensures
 
 shared-slice-read-if1 : tie.Need-shared-slice-read-if1 Inv-loop μ-loop
 shared-slice-read-if1 c = search needs
@@ -47,7 +47,7 @@ past-ascii-spec =
     (tie.spec
     Inv-loop
     μ-loop
-    past-sixteens-requires
+    past-ascii-by-thirty-two-requires
     loop-holds
     shared-slice-read-if1
     add-i

@@ -1,4 +1,4 @@
--- Past sixteens of plain bytes, then a byte a turn, or two at an escape.
+-- Past plain bytes, then a byte a turn, or two at an escape.
 -- Made by ./proofs from Proof.tmpl: change that.
 use mathlib.Core.Path.{refl, sym, _∙_}
 use mathlib.Core.Bool.{false}
@@ -18,11 +18,11 @@ Inv-loop text at i₀ i = Still (λ bs. lexMlBasicString false bs) text at i
 abbrev μ-loop : tie.MeasureT-loop
 μ-loop text at i₀ i = length text - i
 
-past-plain-requires : tie.Need-past-plain-requires Inv-loop μ-loop
-past-plain-requires c κs = (c .before .pre)
+past-plain-if-first-requires : tie.Need-past-plain-if-first-requires Inv-loop μ-loop
+past-plain-if-first-requires c κs = (c .before .pre)
 
 loop-holds : tie.Need-loop-holds Inv-loop μ-loop
-loop-holds c = passed-still ml-basic-passes ((c .past-plain) .ensures)
+loop-holds c = passed-still ml-basic-passes ((c .past-plain-if-first) .ensures)
 
 starts-three-requires : tie.Need-starts-three-requires Inv-loop μ-loop
 starts-three-requires c κs = (c .before .loop) .inv .low
@@ -66,7 +66,7 @@ lex-ml-basic-string-spec =
     (tie.spec
     Inv-loop
     μ-loop
-    past-plain-requires
+    past-plain-if-first-requires
     loop-holds
     starts-three-requires
     add-up-to-two

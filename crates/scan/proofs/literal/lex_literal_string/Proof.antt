@@ -1,4 +1,4 @@
--- Past sixteens of plain bytes, then a byte a turn.
+-- Past plain bytes, then a byte a turn.
 -- Made by ./proofs from Proof.tmpl: change that.
 use mathlib.Core.Path.{refl}
 use native.Mathlib.Omega.{arith}

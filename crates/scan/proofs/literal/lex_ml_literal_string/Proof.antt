@@ -1,4 +1,4 @@
--- Past sixteens of plain bytes, then a byte a turn.
+-- Past plain bytes, then a byte a turn.
 -- Made by ./proofs from Proof.tmpl: change that.
 use mathlib.Core.Path.{refl, sym, _∙_}
 use native.Mathlib.Omega.{arith}
@@ -17,11 +17,11 @@ Inv-loop text at i₀ i = Still lexMlLiteralString text at i
 abbrev μ-loop : tie.MeasureT-loop
 μ-loop text at i₀ i = length text - i
 
-past-plain-requires : tie.Need-past-plain-requires Inv-loop μ-loop
-past-plain-requires c κs = (c .before .pre)
+past-plain-if-first-requires : tie.Need-past-plain-if-first-requires Inv-loop μ-loop
+past-plain-if-first-requires c κs = (c .before .pre)
 
 loop-holds : tie.Need-loop-holds Inv-loop μ-loop
-loop-holds c = passed-still ml-literal-passes ((c .past-plain) .ensures)
+loop-holds c = passed-still ml-literal-passes ((c .past-plain-if-first) .ensures)
 
 starts-three-requires : tie.Need-starts-three-requires Inv-loop μ-loop
 starts-three-requires c κs = (c .before .loop) .inv .low
@@ -55,7 +55,7 @@ lex-ml-literal-string-spec =
     (tie.spec
     Inv-loop
     μ-loop
-    past-plain-requires
+    past-plain-if-first-requires
     loop-holds
     starts-three-requires
     add-up-to-two

@@ -1,4 +1,4 @@
--- Past sixteens of plain bytes, then a byte a turn, until one is of the set.
+-- Past plain bytes, then a byte a turn, until one is of the set.
 -- Made by ./proofs from Proof.tmpl: change that.
 use mathlib.Core.Path.{refl, sym, _∙_}
 use native.Mathlib.Omega.{arith}
@@ -17,11 +17,11 @@ Inv-loop text at i₀ i = Still lexComment text at i
 abbrev μ-loop : tie.MeasureT-loop
 μ-loop text at i₀ i = length text - i
 
-past-plain-requires : tie.Need-past-plain-requires Inv-loop μ-loop
-past-plain-requires c κs = (c .before .pre)
+past-plain-if-first-requires : tie.Need-past-plain-if-first-requires Inv-loop μ-loop
+past-plain-if-first-requires c κs = (c .before .pre)
 
 loop-holds : tie.Need-loop-holds Inv-loop μ-loop
-loop-holds c = passed-still comment-passes ((c .past-plain) .ensures)
+loop-holds c = passed-still comment-passes ((c .past-plain-if-first) .ensures)
 
 shared-slice-read-ends-comment : tie.Need-shared-slice-read-ends-comment Inv-loop μ-loop
 shared-slice-read-ends-comment c = search needs
@@ -51,7 +51,7 @@ lex-comment-spec =
     (tie.spec
     Inv-loop
     μ-loop
-    past-plain-requires
+    past-plain-if-first-requires
     loop-holds
     shared-slice-read-ends-comment
     ends-comment-requires

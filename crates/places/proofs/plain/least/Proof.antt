@@ -1,0 +1,18 @@
+-- By the test.
+-- Made by ./proofs from Proof.tmpl: change that.
+use borrow.Author.Tests.{lt-ltb, le-ltb}
+use Rattle.places.proofs.plain.least.Statement.{statement}
+use Rattle.places.proofs.plain.least.Tie as tie
+
+returns : tie.Need-returns
+returns c = simp (lt-ltb _ _ ((c .if1) .taken))
+
+returns-2 : tie.Need-returns-2
+returns-2 c = simp (le-ltb _ _ ((c .if1) .left))
+
+pub least-spec : {M : Type 1} → statement M
+least-spec =
+    tie.close
+    (tie.spec
+    returns
+    returns-2)
