@@ -5,6 +5,7 @@ pub mod indexes;
 pub mod text;
 pub mod theorems;
 pub mod verdicts;
+pub mod version;
 
 use crate::answer::ExportedAnswer;
 use crate::answer::exported;
