@@ -34,9 +34,9 @@ class Script:
             self.stop(f"takes no words, and was given '{words[0]}' (--help says what it does)")
 
     def number(self, word, name, least=0):
-        """A number that was given."""
-        if not (word.isascii() and word.isdigit()) or int(word) < least:
-            self.stop(f"{name} is a number of at least {least}, and not '{word}'")
+        """A number that was given, of 64 bits."""
+        if not (word.isascii() and word.isdigit() and len(word) <= 20 and least <= int(word) < 1 << 64):
+            self.stop(f"{name} is a number of at least {least} and below 2^64, and not '{word[:40]}'")
         return int(word)
 
     def numbers(self, words, *defaults):
