@@ -20,3 +20,11 @@ writable() {
     mkdir -p "$1/target" 2>/dev/null && [ -w "$1/target" ] ||
         die "cannot write to $1/target, where all that is built goes: the checkout is read-only, or another user's"
 }
+
+# status NUMBER COMMAND..: says so, and fails, where the command does not end with this exit status. For tests.
+status() {
+    local wanted=$1 got=0
+    shift
+    "$@" || got=$?
+    [ "$got" = "$wanted" ] || { echo "exit status $got instead of $wanted: $*"; return 1; }
+}
