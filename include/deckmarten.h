@@ -1,4 +1,4 @@
-/* libdeckmarten.a for C: its functions, and a name for every number that goes in or comes out. docs/USING.md shows how to use
+/* libdeckmarten.a for C and C++: its functions, and a name for every number that goes in or comes out. docs/USING.md shows how to use
  * it, docs/LAYOUT.md says what every byte of the records, every word of the buffers and every part of an answer means.
  * bindings/check-numbers holds the names, the numbers and the parts of the answers here to that page. */
 #ifndef DECKMARTEN_H
@@ -8,9 +8,16 @@
 #include <stddef.h>
 #include <stdint.h>
 
+/* The version of this header: a million times the major number, a thousand times the minor one, and the patch number. */
+#define DECKMARTEN_VERSION 6000
+
 #ifdef __cplusplus
 extern "C" {
 #endif
+
+/* The version of the archive. An archive whose version is not DECKMARTEN_VERSION is not the one that this header declares: numbers and the
+ * parts of answers may be others. */
+uint32_t deckmarten_version(void);
 
 /* What goes beyond a limit is refused; the limit itself is allowed. */
 enum deckmarten_limit {
@@ -54,6 +61,15 @@ enum deckmarten_kind {
     DECKMARTEN_KIND_ATOM = 15,                /* a run of other bytes: a bare key, a number, a date, a word */
     DECKMARTEN_KIND_EOF = 16,                 /* the end of the text, no byte */
 };
+
+/* Writes the record of a token of this kind (enum deckmarten_kind) and length to DECKMARTEN_SIZE_RECORD bytes. Answers where the next one
+ * goes. */
+static inline uint8_t *deckmarten_put_record(uint8_t *record, uint32_t kind, uint32_t length) {
+    int i;
+    for (i = 0; i < 4; i++) record[i] = (uint8_t)(length >> 8 * i);
+    for (i = 0; i < 2; i++) record[4 + i] = (uint8_t)(kind >> 8 * i);
+    return record + DECKMARTEN_SIZE_RECORD;
+}
 
 /* Kinds of events. An empty span is something that was invented, or a bracket that was given up. */
 enum deckmarten_event {

@@ -11,11 +11,8 @@
 
 /* Writes the record of a character, and answers the place after it. */
 static uint8_t *write_record(char character, uint8_t *record) {
-    uint8_t kind = (uint8_t)(strchr(KINDS, character) - KINDS + 1);
-    memset(record, 0, DECKMARTEN_SIZE_RECORD);
-    record[0] = kind != DECKMARTEN_KIND_EOF;
-    record[4] = kind;
-    return record + DECKMARTEN_SIZE_RECORD;
+    uint32_t kind = (uint32_t)(strchr(KINDS, character) - KINDS + 1);
+    return deckmarten_put_record(record, kind, kind != DECKMARTEN_KIND_EOF);
 }
 
 /* Writes the records of a text, and answers the place after them. */

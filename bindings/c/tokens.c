@@ -1,5 +1,5 @@
 /* Tests deckmarten_parse_tokens: for the lists of limits.c, and for wrong ones, it must answer and leave what deckmarten_parse_document
- * does for the records of the same lengths and kinds.
+ * does for the records of the same lengths and kinds. deckmarten_put_record must write each of these records from its token.
  *
  *   tokens          compare
  *   tokens KIB      read no tokens in a thread with a stack of so many KiB, which a signal ends if that is too little */
@@ -26,8 +26,13 @@ static void compare(const char *name, size_t count, uint32_t base) {
     memset(errors, UNTOUCHED, sizeof errors);
     for (size_t i = 0; i < count; i++) {
         const uint8_t *record = records + DECKMARTEN_SIZE_RECORD * i;
+        uint8_t again[DECKMARTEN_SIZE_RECORD];
         tokens[i].length = record[0] + 256u * record[1] + 65536u * record[2] + 16777216u * record[3];
         tokens[i].kind = (uint16_t)(record[4] + 256u * record[5]);
+        if (deckmarten_put_record(again, tokens[i].kind, tokens[i].length) != again + sizeof again || memcmp(again, record, sizeof again)) {
+            fprintf(stderr, "tokens: %s: record %zu is written otherwise\n", name, i);
+            exit(1);
+        }
     }
     struct deckmarten_answer a = deckmarten_parse_tokens(tokens, count, base, events[0], EVENT_WORDS, errors[0], ERROR_WORDS);
     struct deckmarten_answer b =

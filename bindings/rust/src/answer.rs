@@ -1,6 +1,6 @@
 //! What a run answers.
 
-use std::ops::{Deref, Range};
+use core::ops::{Deref, Range};
 
 use crate::foreign::{self, RawAnswer, RawTextAnswer};
 use crate::limits::{ERROR_SIZE, EVENT_SIZE, RECORD_SIZE};

@@ -5,6 +5,7 @@ use crate::{Answer, Token};
 
 /// Where reading begins: what the list is taken to be.
 #[derive(Clone, Copy, Debug, PartialEq, Eq, Hash)]
+#[non_exhaustive]
 pub enum Entry {
     /// A whole document.
     Document,

@@ -1,10 +1,11 @@
 //! Errors: what is wrong with the text, and where.
 
-use std::fmt;
+use core::fmt;
 
 use crate::{Expected, Message, Span};
 
 /// A mistake in the text.
+#[non_exhaustive]
 #[derive(Clone, Copy, Debug, PartialEq, Eq, Hash)]
 pub struct ParseError {
     /// What is wrong.
@@ -38,4 +39,4 @@ impl fmt::Display for ParseError {
     }
 }
 
-impl std::error::Error for ParseError {}
+impl core::error::Error for ParseError {}

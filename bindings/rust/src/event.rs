@@ -1,12 +1,13 @@
 //! Events: what was read, in the order of the text.
 
-use std::fmt;
+use core::fmt;
 
 use crate::numbered::numbered;
 use crate::Span;
 
 numbered! {
     /// The kind of an event. `Display` prints what it stands for, `Debug` its name.
+    #[non_exhaustive]
     EventKind {
         /// `[` of a table header.
         StdTableOpen = 1 => "start of a table header",
@@ -61,6 +62,7 @@ numbered! {
 
 /// Something that was read.
 #[derive(Clone, Copy, Debug, PartialEq, Eq, Hash)]
+#[non_exhaustive]
 pub struct Event {
     /// What it is.
     pub kind: EventKind,

@@ -4,6 +4,7 @@ use crate::numbered::numbered;
 
 numbered! {
     /// What was expected at the place of an error.
+    #[non_exhaustive]
     Expected {
         /// No hint is given.
         Nothing = 1 => "nothing",

@@ -1,6 +1,8 @@
 //! Yes or no: whether a text, or a list of records, is a document.
 
-use std::fmt;
+use alloc::vec;
+use alloc::vec::Vec;
+use core::fmt;
 
 use crate::foreign::{self, RawVerdict};
 use crate::limits::{enough_records, EVENT_SIZE, MAX_RECORDS, RECORD_SIZE};

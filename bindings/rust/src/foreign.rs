@@ -90,6 +90,7 @@ entries! {
 
 #[rustfmt::skip]
 extern "C" {
+    fn deckmarten_version() -> u32;
     fn deckmarten_lex(text: *const u8, bytes: usize, records: *mut u8, record_bytes: usize) -> RawLexed;
     fn deckmarten_parse_text(
         text: *const u8, bytes: usize, records: *mut u8, record_bytes: usize, events: *mut u32, event_words: usize, errors: *mut u32,
@@ -128,6 +129,11 @@ pub(crate) fn call_with_tokens(tokens: &[Token], base: u32, events: &mut [u32], 
 fn lend<T>(function: Function<T>, list: &[T], base: u32, events: &mut [u32], errors: &mut [u32]) -> RawAnswer {
     // SAFETY: see above; no other function comes here
     unsafe { function(list.as_ptr(), list.len(), base, events.as_mut_ptr(), events.len(), errors.as_mut_ptr(), errors.len()) }
+}
+
+pub(crate) fn version() -> u32 {
+    // SAFETY: it takes nothing
+    unsafe { deckmarten_version() }
 }
 
 pub(crate) fn lex(text: &[u8], records: &mut [u8]) -> RawLexed {

@@ -1,7 +1,9 @@
 //! The index of headers: which tables a quiet run has, and where.
 
-use std::iter::FusedIterator;
-use std::ops::Range;
+use alloc::vec;
+use alloc::vec::Vec;
+use core::iter::FusedIterator;
+use core::ops::Range;
 
 use crate::foreign::{self, RawAnswer, RawIndexed};
 use crate::limits::EVENT_SIZE;
@@ -94,6 +96,7 @@ impl FusedIterator for Headers<'_> {}
 /// What comes of an index in a lent buffer.
 #[derive(Clone, Copy, Debug, PartialEq, Eq, Hash)]
 #[must_use]
+#[non_exhaustive]
 pub struct Indexed {
     /// Why nothing was written; none if the index was.
     pub refusal: Option<Refusal>,

@@ -21,7 +21,12 @@
 //! A program that looks for one table of many makes an [`Index`] of a quiet run, by [`Answer::index`].
 //!
 //! Who has tokens already gives them as [`Records`], which [`fits`], [`Room::parse`] and the entries take.
+//!
+//! It needs `core` and `alloc` alone, and no `std`.
+#![no_std]
 #![deny(unsafe_code, missing_docs)]
+
+extern crate alloc;
 
 mod answer;
 mod entry;
@@ -40,6 +45,7 @@ mod span;
 mod stored;
 mod text;
 mod token;
+mod version;
 
 pub use answer::{Answer, TextAnswer};
 pub use entry::{parse_document, parse_key, parse_simple_key, parse_tokens, parse_value, Entry};
@@ -55,3 +61,4 @@ pub use span::Span;
 pub use stored::Stored;
 pub use text::{lex, parse_text, Lexed};
 pub use token::{Records, Token, TokenKind};
+pub use version::{version, VERSION};

@@ -4,6 +4,7 @@ use crate::numbered::numbered;
 
 numbered! {
     /// The message of an error. `Display` prints the text of document.rs.
+    #[non_exhaustive]
     Message {
         /// A single `]`, or none, after `[[` and a key.
         UnclosedArrayTable = 1 => "unclosed array table",

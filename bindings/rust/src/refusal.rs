@@ -1,6 +1,6 @@
 //! Why a text or a list was not read to its end, or not stored whole.
 
-use std::fmt;
+use core::fmt;
 
 use crate::numbered::numbered;
 
@@ -8,6 +8,7 @@ numbered! {
     /// Why a text or a list was not read to its end, or not stored whole. The place is the number of a record, from 0, where nothing else is
     /// said. `PartialRecord` to `Bytes` leave the events and the errors untouched, `TextTooLong` to `Tokens` all three buffers,
     /// `NotQuiet` and `Index` the index.
+    #[non_exhaustive]
     Refusal {
         /// The place is the number of whole records.
         PartialRecord = 1 => "the byte length is no multiple of 6",
@@ -27,7 +28,7 @@ numbered! {
         Errors = 8 => "the errors do not fit",
         /// The place is 16,777,216.
         TextTooLong = 9 => "a text of more than 16,777,216 bytes",
-        /// The place is the first byte that cannot be UTF-8, from 0: what `valid_up_to` of [`Utf8Error`](std::str::Utf8Error) says.
+        /// The place is the first byte that cannot be UTF-8, from 0: what `valid_up_to` of [`Utf8Error`](core::str::Utf8Error) says.
         NotUtf8 = 10 => "a text that is not UTF-8",
         /// The place is 0.
         Tokens = 11 => "the tokens do not fit",
@@ -45,7 +46,7 @@ impl Refusal {
     }
 }
 
-impl std::error::Error for Refusal {}
+impl core::error::Error for Refusal {}
 
 /// A refusal, and where.
 #[derive(Clone, Copy, Debug, PartialEq, Eq, Hash)]
@@ -69,4 +70,4 @@ impl fmt::Display for Refused {
     }
 }
 
-impl std::error::Error for Refused {}
+impl core::error::Error for Refused {}

@@ -1,5 +1,8 @@
 //! Buffers that are always large enough.
 
+use alloc::vec;
+use alloc::vec::Vec;
+
 use crate::limits::{enough_error_words, enough_event_words, enough_records, MAX_RECORDS, RECORD_SIZE};
 use crate::text::{parse_text, record_bytes};
 use crate::{Answer, Entry, TextAnswer};

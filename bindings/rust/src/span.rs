@@ -1,7 +1,7 @@
 //! Places in the text.
 
-use std::fmt;
-use std::ops::Range;
+use core::fmt;
+use core::ops::Range;
 
 /// A part of the text, from the place of its first byte to the place after its last.
 #[derive(Clone, Copy, Debug, PartialEq, Eq, Hash)]

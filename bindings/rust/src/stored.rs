@@ -1,9 +1,9 @@
 //! What a buffer holds, entry by entry.
 
-use std::iter::FusedIterator;
-use std::slice::ChunksExact;
+use core::iter::FusedIterator;
+use core::slice::ChunksExact;
 
-/// The entries that an answer's buffer holds, in order: [`Event`](crate::Event)s or [`ParseError`](crate::ParseError)s.
+/// The entries that an answer's buffer holds, in order and from both ends: [`Event`](crate::Event)s or [`ParseError`](crate::ParseError)s.
 #[derive(Clone, Debug)]
 pub struct Stored<'b, T> {
     entries: ChunksExact<'b, u32>,
@@ -31,6 +31,17 @@ impl<T> Iterator for Stored<'_, T> {
 
     fn size_hint(&self) -> (usize, Option<usize>) {
         self.entries.size_hint()
+    }
+}
+
+impl<T> DoubleEndedIterator for Stored<'_, T> {
+    fn next_back(&mut self) -> Option<T> {
+        self.entries.next_back().map(self.read)
+    }
+
+    /// In one step.
+    fn nth_back(&mut self, n: usize) -> Option<T> {
+        self.entries.nth_back(n).map(self.read)
     }
 }
 

@@ -1,5 +1,7 @@
 //! Texts: their tokens, and the whole way to events.
 
+use alloc::vec;
+
 use crate::foreign;
 use crate::limits::{enough_records, MAX_BYTES, RECORD_SIZE};
 use crate::{Records, Refused, Span, TextAnswer, Token};
@@ -15,6 +17,7 @@ pub(crate) fn record_bytes(text: &[u8]) -> usize {
 
 /// A text's token records, and where its first token starts.
 #[derive(Clone, Debug, PartialEq, Eq, Hash)]
+#[non_exhaustive]
 pub struct Lexed {
     /// Where the first token starts: 3 behind a byte order mark, else 0.
     pub base: u32,

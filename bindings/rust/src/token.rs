@@ -1,5 +1,8 @@
 //! Tokens, and the records that hand them to the library.
 
+use alloc::vec::Vec;
+use core::iter::FusedIterator;
+
 use crate::limits::RECORD_SIZE;
 use crate::numbered::numbered;
 
@@ -96,6 +99,16 @@ impl Records {
         Records::default()
     }
 
+    /// An empty list with room for so many records before it grows.
+    pub fn with_capacity(records: usize) -> Records {
+        Records { bytes: Vec::with_capacity(RECORD_SIZE * records) }
+    }
+
+    /// Removes all records, and keeps the room for others.
+    pub fn clear(&mut self) {
+        self.bytes.clear();
+    }
+
     /// Adds a token at the end.
     pub fn push(&mut self, token: Token) {
         self.bytes.extend_from_slice(&token.record());
@@ -111,8 +124,8 @@ impl Records {
         Records { bytes }
     }
 
-    /// The tokens, in the order of the text.
-    pub fn iter(&self) -> impl Iterator<Item = Token> + '_ {
+    /// The tokens, in the order of the text; from both ends.
+    pub fn iter(&self) -> impl DoubleEndedIterator<Item = Token> + ExactSizeIterator + FusedIterator + Clone + '_ {
         self.bytes.chunks_exact(RECORD_SIZE).map(Token::read)
     }
 
@@ -124,7 +137,9 @@ impl Records {
 
 impl Extend<Token> for Records {
     fn extend<I: IntoIterator<Item = Token>>(&mut self, tokens: I) {
-        tokens.into_iter().for_each(|token| self.push(token));
+        let tokens = tokens.into_iter();
+        self.bytes.reserve(RECORD_SIZE.saturating_mul(tokens.size_hint().0));
+        tokens.for_each(|token| self.push(token));
     }
 }
 

@@ -4,7 +4,7 @@ use mathlib.Core.List.{List}
 use Prim.Native.Nat.{ℕ}
 use Rattle.verdicts.specs.declared.verdict.Verdict.{Verdict}
 use Rattle.verdicts.specs.Verdicts.{Judges}
-use Rattle.deckmarten.specs.declared.verdicts.ExportedVerdict.{ExportedVerdict}
+use Rattle.deckmarten.specs.declared.judgements.ExportedVerdict.{ExportedVerdict}
 use Rattle.deckmarten.specs.ExportedVerdicts.{plainVerdict, ExportsVerdict}
 
 pub exports-verdict : (s : List ℕ) (base : ℕ) (events after : List ℕ) (v : Verdict) (e : ExportedVerdict) → plainVerdict e ≡ v → Judges s base events after v → ExportsVerdict s base events after e

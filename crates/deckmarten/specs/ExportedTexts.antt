@@ -7,7 +7,7 @@ use Rattle.lex.specs.Lexed.{LexOutcome, lexOutcome}
 use Rattle.text_rules.specs.declared.answer.TextAnswer.{TextAnswer}
 use Rattle.text_rules.specs.TextOutcome.{TextAnswers}
 use Rattle.texts.specs.TextVerdicts.{JudgesText}
-use Rattle.deckmarten.specs.declared.verdicts.ExportedVerdict.{ExportedVerdict}
+use Rattle.deckmarten.specs.declared.judgements.ExportedVerdict.{ExportedVerdict}
 use Rattle.deckmarten.specs.ExportedVerdicts.{plainVerdict}
 use Rattle.deckmarten.specs.declared.text.ExportedLexed.{ExportedLexed}
 use Rattle.deckmarten.specs.declared.text.ExportedTextAnswer.{ExportedTextAnswer}

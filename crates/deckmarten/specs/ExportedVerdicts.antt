@@ -4,7 +4,7 @@ use mathlib.Core.List.{List}
 use Prim.Native.Nat.{ℕ}
 use Rattle.verdicts.specs.declared.verdict.Verdict.{Verdict}
 use Rattle.verdicts.specs.Verdicts.{Judges}
-use Rattle.deckmarten.specs.declared.verdicts.ExportedVerdict.{ExportedVerdict}
+use Rattle.deckmarten.specs.declared.judgements.ExportedVerdict.{ExportedVerdict}
 
 -- the verdict that a C structure holds
 abbrev pub plainVerdict : ExportedVerdict → Verdict

@@ -3,3 +3,4 @@ pub mod Determined
 pub mod ExportedVerdicts
 pub mod ExportedTexts
 pub mod ExportedIndexes
+pub mod Version

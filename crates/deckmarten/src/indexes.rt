@@ -1,6 +1,6 @@
 // The index of headers for programs in C and Rust: written from a quiet run's events, and read again.
 use crate::answer::ExportedAnswer;
-use crate::verdicts::taken;
+use crate::judgements::taken;
 use index::Indexed;
 use index::index as index_of;
 use index::reading::HeaderAt;

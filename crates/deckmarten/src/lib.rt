@@ -2,9 +2,10 @@
 // as a C structure.
 pub mod answer;
 pub mod indexes;
+pub mod judgements;
 pub mod text;
 pub mod theorems;
-pub mod verdicts;
+pub mod version;
 
 use crate::answer::ExportedAnswer;
 use crate::answer::exported;

@@ -1,6 +1,6 @@
 // Text in, for programs in C and Rust: the lexer by itself, the joined entry, and the yes of a text.
-use crate::verdicts::ExportedVerdict;
-use crate::verdicts::exported_verdict;
+use crate::judgements::ExportedVerdict;
+use crate::judgements::exported_verdict;
 use lex::Lexed;
 use lex::lex;
 use text_rules::answer::TextAnswer;

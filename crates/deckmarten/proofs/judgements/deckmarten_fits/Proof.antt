@@ -2,8 +2,8 @@
 -- Made by ./proofs from Proof.tmpl: change that.
 use Rattle.deckmarten.proofs.VerdictExports.{exports-verdict}
 use borrow.Author.Needs.{needs}
-use Rattle.deckmarten.proofs.verdicts.deckmarten_fits.Statement.{statement}
-use Rattle.deckmarten.proofs.verdicts.deckmarten_fits.Tie as tie
+use Rattle.deckmarten.proofs.judgements.deckmarten_fits.Statement.{statement}
+use Rattle.deckmarten.proofs.judgements.deckmarten_fits.Tie as tie
 
 fits-requires : tie.Need-fits-requires
 fits-requires c κs = search needs

@@ -6,8 +6,8 @@ use mathlib.Core.Logic.{_↔_}
 use Rattle.rules.specs.declared.answer.Answer.{Answer}
 use Rattle.quiet.specs.Runs.{QuietAnswer}
 use borrow.Author.Needs.{needs}
-use Rattle.deckmarten.proofs.verdicts.deckmarten_is_quiet.Statement.{statement}
-use Rattle.deckmarten.proofs.verdicts.deckmarten_is_quiet.Tie as tie
+use Rattle.deckmarten.proofs.judgements.deckmarten_is_quiet.Statement.{statement}
+use Rattle.deckmarten.proofs.judgements.deckmarten_is_quiet.Tie as tie
 
 taken-requires : tie.Need-taken-requires
 taken-requires c κs = search needs

@@ -4,8 +4,8 @@
 use Rattle.verdicts.specs.Verdicts.{Judgement}
 use Rattle.deckmarten.specs.ExportedVerdicts.{plainVerdict, ExportedJudgement}
 use borrow.Author.Needs.{needs}
-use Rattle.deckmarten.proofs.verdicts.exported_verdicts_are_determined.Statement.{statement}
-use Rattle.deckmarten.proofs.verdicts.exported_verdicts_are_determined.Tie as tie
+use Rattle.deckmarten.proofs.judgements.exported_verdicts_are_determined.Statement.{statement}
+use Rattle.deckmarten.proofs.judgements.exported_verdicts_are_determined.Tie as tie
 
 held : ExportedJudgement → Judgement
 held x = record { verdict = plainVerdict (x .verdict); events = x .events }
