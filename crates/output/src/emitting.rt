@@ -1,4 +1,5 @@
 // Emitting: the words of an event, or of an error, into the lent buffers. What does not fit is counted and not written.
+// The last word of an error, its line, is left as it is: the crate line_numbers fills it in when the walk is over.
 use rules::answer::ERROR_WORDS;
 use rules::answer::EVENT_WORDS;
 use rules::event::Encoding;
