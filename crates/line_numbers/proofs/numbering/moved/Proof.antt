@@ -3,8 +3,6 @@
 use Rattle.line_numbers.proofs.PairLaws.{point-of, commas-moved, others-moved}
 use Rattle.line_numbers.proofs.numbering.moved.Statement.{statement}
 use Rattle.line_numbers.proofs.numbering.moved.Tie as tie
-use Rattle.line_numbers.proofs.numbering.moved.Reads as reads
-use Rattle.line_numbers.proofs.numbering.moved.Lts as lts
 
 line-from-requires : tie.Need-line-from-requires
 line-from-requires c κs = ((c .before .before .before .before .pre) .0 .commas, (c .before .before .before .before .pre) .1)

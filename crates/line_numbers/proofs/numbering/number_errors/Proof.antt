@@ -5,8 +5,6 @@ use borrow.Author.Tests.{lt-ltb, le-ltb}
 use borrow.Author.Needs.{needs}
 use Rattle.line_numbers.proofs.numbering.number_errors.Statement.{statement}
 use Rattle.line_numbers.proofs.numbering.number_errors.Tie as tie
-use Rattle.line_numbers.proofs.numbering.number_errors.Reads as reads
-use Rattle.line_numbers.proofs.numbering.number_errors.Lts as lts
 
 number-first-requires : tie.Need-number-first-requires
 number-first-requires c κs = ((c .before .before .before .before .pre) .0, ((c .before .before .before .before .pre) .1, omega arith))

@@ -6,8 +6,6 @@ use Rattle.line_numbers.proofs.PairLaws.{Numbering, numbering-begun, ow
 use borrow.Author.Needs.{needs}
 use Rattle.line_numbers.proofs.numbering.number_first.Statement.{statement}
 use Rattle.line_numbers.proofs.numbering.number_first.Tie as tie
-use Rattle.line_numbers.proofs.numbering.number_first.Reads as reads
-use Rattle.line_numbers.proofs.numbering.number_first.Lts as lts
 
 abbrev Inv-loop : tie.InvT-loop
 Inv-loop s base n errors₀ points₀ i₀ errors points i = Numbering s base n errors₀ points i errors

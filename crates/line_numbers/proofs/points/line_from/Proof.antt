@@ -9,8 +9,6 @@ use Rattle.line_numbers.proofs.PointLaws.{toward-on, toward-behind, tow
 use borrow.Author.Needs.{needs}
 use Rattle.line_numbers.proofs.points.line_from.Statement.{statement}
 use Rattle.line_numbers.proofs.points.line_from.Tie as tie
-use Rattle.line_numbers.proofs.points.line_from.Reads as reads
-use Rattle.line_numbers.proofs.points.line_from.Lts as lts
 
 abbrev Inv-loop : tie.InvT-loop
 Inv-loop s at cur₀ line₀ cur line = Toward s (cur₀ .base) at (record { cur = cur; line = line })

@@ -5,8 +5,6 @@ use borrow.Author.Tests.{eq-eqb, ne-eqb}
 use borrow.Author.Needs.{needs}
 use Rattle.line_numbers.proofs.points.newlines.Statement.{statement}
 use Rattle.line_numbers.proofs.points.newlines.Tie as tie
-use Rattle.line_numbers.proofs.points.newlines.Reads as reads
-use Rattle.line_numbers.proofs.points.newlines.Lts as lts
 
 number-of-requires : tie.Need-number-of-requires
 number-of-requires c κs = search needs

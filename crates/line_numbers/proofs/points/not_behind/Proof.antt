@@ -4,8 +4,6 @@ use Rattle.line_numbers.proofs.PointLaws.{toward-begun, toward-point}
 use borrow.Author.Needs.{needs}
 use Rattle.line_numbers.proofs.points.not_behind.Statement.{statement}
 use Rattle.line_numbers.proofs.points.not_behind.Tie as tie
-use Rattle.line_numbers.proofs.points.not_behind.Reads as reads
-use Rattle.line_numbers.proofs.points.not_behind.Lts as lts
 
 first-line-requires : tie.Need-first-line-requires
 first-line-requires c κs = search needs
