@@ -11,6 +11,7 @@ use crate::headers::Found;
 use crate::judged_compared;
 use crate::lexer::Token;
 use crate::lexer::TokenKind;
+use crate::numbers::ERROR_WORDS;
 use crate::records;
 use crate::texts;
 use crate::texts::Rooms;
@@ -27,6 +28,8 @@ const GATHERED: usize = 800_000;
 pub enum Wrong {
     /// At each report 13 what was expected is another.
     Reports,
+    /// No line is less than that of the report before it.
+    Lines,
     /// Each multi-line basic string of a text is a multi-line literal one.
     Records,
     /// What is not UTF-8 begins one byte later.
@@ -44,8 +47,10 @@ pub enum Wrong {
 }
 
 /// All of them, with their names.
-pub const WRONGS: [(&str, Wrong); 8] = [
+pub const WRONGS: [(&str, Wrong); 10] = [
     ("reports", Wrong::Reports),
+    ("lines", Wrong::Lines),
+    ("text_lines", Wrong::Lines),
     ("records", Wrong::Records),
     ("places", Wrong::Places),
     ("untouched", Wrong::Untouched),
@@ -97,7 +102,7 @@ impl<W: Write> Feed<W> {
     {
         let judged = judged_compared(case.entry, case.base, &case.bytes)?;
         let (events, errors) = judged.counts();
-        for (event_words, error_words) in rooms(4 * events, 6 * errors) {
+        for (event_words, error_words) in rooms(4 * events, ERROR_WORDS * errors) {
             case.event_words = event_words;
             case.error_words = error_words;
             self.put_judged(&case, &judged)?;
@@ -109,11 +114,11 @@ impl<W: Write> Feed<W> {
         let mut events = vec![0; case.event_words];
         let mut errors = vec![0; case.error_words];
         let answer = judged.answer(&mut events, &mut errors);
-        if self.wrong == Some(Wrong::Reports) {
-            let errors = errors.chunks_exact_mut(6);
-            errors
-                .filter(|error| error[0] == 13)
-                .for_each(|error| error[1] += 1);
+        if let Some(wrong) = self.wrong {
+            spoil_errors(
+                errors.chunks_exact_mut(ERROR_WORDS).take(answer.errors),
+                wrong,
+            );
         }
         frame::push_case(&mut self.out, case, &answer, &events, &errors);
         self.added(1)
@@ -258,10 +263,9 @@ fn spoil(text: &mut Text, wrong: Wrong) {
         (Text::Refused(refusal), Wrong::Places) if refusal.number == texts::NOT_UTF8 => {
             refusal.place += 1;
         }
-        (Text::Tokens { judged, .. }, Wrong::Reports) => {
+        (Text::Tokens { judged, .. }, Wrong::Reports | Wrong::Lines) => {
             if let Judged::Walked(lists, _) = judged {
-                let reports = lists.errors.iter_mut().filter(|error| error[0] == 13);
-                reports.for_each(|error| error[1] += 1);
+                spoil_errors(lists.errors.iter_mut().map(|error| &mut error[..]), wrong);
             }
         }
         (Text::Tokens { records, .. }, Wrong::Records) => {
@@ -274,6 +278,24 @@ fn spoil(text: &mut Text, wrong: Wrong) {
         _ => {}
     }
 }
+
+/// Makes errors wrong.
+fn spoil_errors<'e>(errors: impl Iterator<Item = &'e mut [u32]>, wrong: Wrong) {
+    let mut line = 0;
+    for error in errors {
+        match wrong {
+            Wrong::Reports if error[0] == 13 => error[1] += 1,
+            Wrong::Lines => {
+                line = line.max(error[ERROR_WORDS - 1]);
+                error[ERROR_WORDS - 1] = line;
+            }
+            _ => {}
+        }
+    }
+}
+
+/// Words to spare, for events and for errors: an entry and one word more.
+pub const SPARE: (usize, usize) = (5, ERROR_WORDS + 1);
 
 /// Words of room where so many are needed: none, one short, exact, or some to spare.
 pub fn room(which: usize, needed: usize, spare: usize) -> usize {
@@ -289,7 +311,7 @@ pub fn room(which: usize, needed: usize, spare: usize) -> usize {
 pub fn ample_and_another(turn: u64, events: usize, errors: usize) -> [(usize, usize); 2] {
     let (first, second) = ((turn % 4) as usize, (turn / 4 % 4) as usize);
     [(3, 3), (first, second)]
-        .map(|(first, second)| (room(first, events, 5), room(second, errors, 7)))
+        .map(|(first, second)| (room(first, events, SPARE.0), room(second, errors, SPARE.1)))
 }
 
 /// The length if the kind may have it, else the one that it must have.
