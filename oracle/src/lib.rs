@@ -34,6 +34,7 @@ pub mod stream;
 pub mod texts;
 pub mod tomlish;
 pub mod walk;
+pub mod wrong;
 
 mod error;
 mod judge;
