@@ -133,10 +133,7 @@ pub fn parse_document(s: &[u8], base: u32, events: &mut [u32], errors: &mut [u32
     let begun = begin(s, base);
     match begun {
         Begun::Refused(answer) => answer,
-        Begun::Start(c, m) => {
-            let w = document(s, c, m, MAX_DEPTH, events, errors);
-            answered(s, w, events, errors)
-        }
+        Begun::Start(_, _) => read_document(s, base, events, errors),
     }
 }
 

@@ -17,19 +17,20 @@ use Rattle.line_numbers.specs.Pairs.{Pointed, Moved}
 use Rattle.line_numbers.specs.Numbering.{numberedFirst}
 use Rattle.line_numbers.proofs.PointLaws.{counted-begun}
 
--- one point's base is the other's
-pub point-of : {s : List ℕ} {base : ℕ} {p q : LinePoint} → Counted s base p → Counted s base q → Counted s (q .cur .base) q
-point-of {s} {q = q} x y = subst (λ (b : ℕ). Counted s b q) (sym (y .based)) y
+-- the base of the list is that of a point of it
+pub point-of : {s : List ℕ} {base : ℕ} {p : LinePoint} → Counted s base p → Counted s (p .cur .base) p
+point-of {s} {p = p} x = subst (λ (b : ℕ). Counted s b p) (sym (x .based)) x
 
-pub commas-moved : {s : List ℕ} {at : ℕ} {p : Points} {q : LinePoint} → Pointed s (p .commas .cur .base) p → Numbered s (p .commas .cur .base) at q
-    → Moved s (p .commas .cur .base) at (record { commas = q; others = p .others; line = q .line })
-commas-moved x n = record { pointed = record { commas = n .point; others = x .others }; line = n .line }
+-- from the point near, of which the lines are counted too
+module _ {s : List ℕ} {at : ℕ} {p : Points} {near q : LinePoint} (x : Pointed s (p .commas .cur .base) p) (y : Counted s (p .commas .cur .base) near) (n : Numbered s (near .cur .base) at q) where
+  numbered-here : Numbered s (p .commas .cur .base) at q
+  numbered-here = subst (λ (b : ℕ). Numbered s b at q) (y .based) n
 
-pub others-moved : {s : List ℕ} {at : ℕ} {p : Points} {q : LinePoint} → Pointed s (p .commas .cur .base) p → Numbered s (p .others .cur .base) at q
-    → Moved s (p .commas .cur .base) at (record { commas = p .commas; others = q; line = q .line })
-others-moved {s} {at} {p} {q} x n =
-    let m : Numbered s (p .commas .cur .base) at q = subst (λ (b : ℕ). Numbered s b at q) (x .others .based) n in
-    record { pointed = record { commas = x .commas; others = m .point }; line = m .line }
+  pub commas-moved : Moved s (p .commas .cur .base) at (record { commas = q; others = p .others; line = q .line })
+  commas-moved = record { pointed = record { commas = numbered-here .point; others = x .others }; line = numbered-here .line }
+
+  pub others-moved : Moved s (p .commas .cur .base) at (record { commas = p .commas; others = q; line = q .line })
+  others-moved = record { pointed = record { commas = x .commas; others = numbered-here .point }; line = numbered-here .line }
 
 -- the first i errors are numbered, and both points are counted
 pub record Numbering (s : List ℕ) (base n : ℕ) (errors₀ : List ℕ) (p : Points) (i : ℕ) (errors : List ℕ) : Type 0 where

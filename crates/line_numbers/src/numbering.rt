@@ -5,24 +5,41 @@ use crate::points::line_from;
 use output::message::TRAILING_COMMA;
 use rules::answer::ERROR_WORDS;
 ghost use mathlib.Core.Path.{_≡_};
-ghost use Prim.Native.Nat.{_*_, _≤_};
+ghost use mathlib.Core.List.{List};
+ghost use Prim.Native.Nat.{ℕ, _*_, _≤_};
 ghost use lib.ListN.{length};
 ghost use Rattle.token.specs.Limits.{maxRecords, maxEnd};
 ghost use Rattle.token.specs.Records.{count, startAt};
 ghost use Rattle.token.specs.Tokens.{allTokens};
 ghost use Rattle.rules.specs.Answer.{errorSize};
 ghost use Rattle.line_numbers.specs.Numbering.{numbered, numberedFirst};
+ghost use Rattle.line_numbers.specs.Points.{Counted};
 ghost use Rattle.line_numbers.specs.Pairs.{Pointed, Moved};
 
 // Two points, and a line. Along the errors the places of TRAILING_COMMA rise, and those of all the others do, but for one fall where the list ends:
-// so with a point for each the whole pass is linear.
+// so with a point for each the whole pass is linear. Where they rise together, the list is passed once.
 pub struct Points {
     pub commas: LinePoint,
     pub others: LinePoint,
     pub line: u32,
 }
 
-// The line of a place, from the point for its message.
+// Of two points the one that is nearer before the place; the first where it lies behind it.
+fn nearer(p: LinePoint, q: LinePoint, at: u32) -> LinePoint
+    ensures { λ r. ⌜ ((s : List ℕ) (base : ℕ) → Counted s base p → Counted s base q → Counted s base r) ⌝ }
+{
+    let own = p.cur;
+    let other = q.cur;
+    if other.place <= at {
+        if own.place < other.place {
+            return q;
+        }
+        return p;
+    }
+    p
+}
+
+// The line of a place, from the point for its message, or from the other where that is nearer.
 fn moved(s: &[u8], points: Points, message: u32, at: u32) -> Points
     requires { ⌜ Pointed (now s) (points .commas .cur .base) points ⌝ }
     requires { ⌜ count (now s) ≤ maxRecords ⌝ }
@@ -31,14 +48,16 @@ fn moved(s: &[u8], points: Points, message: u32, at: u32) -> Points
     let commas = points.commas;
     let others = points.others;
     if message == TRAILING_COMMA {
-        let p = line_from(s, commas, at);
+        let near = nearer(commas, others, at);
+        let p = line_from(s, near, at);
         return Points {
             commas: p,
             others,
             line: p.line,
         };
     }
-    let p = line_from(s, others, at);
+    let near = nearer(others, commas, at);
+    let p = line_from(s, near, at);
     Points {
         commas,
         others: p,
