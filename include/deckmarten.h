@@ -9,7 +9,7 @@
 #include <stdint.h>
 
 /* The version of this header: a million times the major number, a thousand times the minor one, and the patch number. */
-#define DECKMARTEN_VERSION 6000
+#define DECKMARTEN_VERSION 7000
 
 #ifdef __cplusplus
 extern "C" {
@@ -26,10 +26,12 @@ enum deckmarten_limit {
     DECKMARTEN_LIMIT_BYTES = 16777216, /* of a text, of `base`, and of the end of each token */
 };
 
+/* The line of an error is one more than the Newline tokens that end at or before its unexpected start. Line breaks inside multi-line
+ * strings are not counted, a carriage return alone ends a line, and lines do not always rise from one error to the next. */
 enum deckmarten_size {
     DECKMARTEN_SIZE_RECORD = 6, /* bytes of a token record: length, 4 bytes, then kind, 2 bytes, both least first */
     DECKMARTEN_SIZE_EVENT = 4,  /* words of an event: kind, encoding, start, end */
-    DECKMARTEN_SIZE_ERROR = 6,  /* words of an error: message, expected, context start and end, unexpected start and end */
+    DECKMARTEN_SIZE_ERROR = 7,  /* words of an error: message, expected, context start and end, unexpected start and end, line */
     DECKMARTEN_SIZE_ENTRY = 17, /* bytes of an index entry: length 4, kind 2, place 2, key parts 4, array mark 1, events 4, all least first */
 };
 

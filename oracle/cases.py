@@ -1,5 +1,7 @@
 """The cases of differ as the checker prints them: lists, texts, indexes and positions in an index; and simpler ones to try for each."""
-SPARE = (4, 6)  # words beyond what is needed, for a list that is tried with ample room
+from sizes import ERROR_WORDS, EVENT_WORDS
+
+SPARE = (EVENT_WORDS, ERROR_WORDS)  # words for each entry of a list that is tried with ample room
 MOST_ITEMS = 1000000  # tokens, bytes or events of all the smaller cases that are tried at once
 
 

@@ -71,12 +71,13 @@ use Rattle.token.specs.Tokens.{tokensFrom, allTokens}
 use Rattle.token.specs.Check.{checkedFrom, checked}
 use Rattle.rules.specs.Turns.{turns}
 use Rattle.rules.specs.Nest.{onOpen}
+use Rattle.rules.specs.Lines.{lineOf}
 use Rattle.rules.specs.Words.{lookedUp}
 use Rattle.rules.specs.Entries.{documentEntry, keyEntry, simpleKeyEntry, valueEntry}
 use Rattle.rules.specs.Answer.{Outcome, outcome, walked, filled}
 use Rattle.cases.specs.Shape.{bytes, words, repeated, untouched, lay, walk, gives, allWords}
 '''
-UNFOLDING = 'unfolding kindOf lengthAt kindNumberAt tokensFrom allTokens checkedFrom checked turns onOpen lookedUp outcome walked filled'
+UNFOLDING = 'unfolding kindOf lengthAt kindNumberAt tokensFrom allTokens checkedFrom checked turns onOpen lineOf lookedUp outcome walked filled'
 
 
 def types_only(text):

@@ -39,7 +39,7 @@ static void show_event(const uint32_t *event) {
 }
 
 static void show_error(const uint32_t *error) {
-    printf("  at %u..%u: %s", error[4], error[5], deckmarten_message_text(error[0]));
+    printf("  line %u, at %u..%u: %s", error[6], error[4], error[5], deckmarten_message_text(error[0]));
     if (error[1] != DECKMARTEN_EXPECTED_NOTHING) printf(", expected %s", deckmarten_expected_text(error[1]));
     printf(" (in %u..%u)\n", error[2], error[3]);
 }

@@ -7,6 +7,7 @@
 use std::fmt::Write as _;
 
 use crate::judge_compared;
+use crate::numbers::ERROR_WORDS;
 use crate::records;
 use crate::Answer;
 use crate::Entry;
@@ -104,7 +105,11 @@ pub fn render(answer: &Answer, events: &[u32], errors: &[u32]) -> String {
         let _ = write!(text, " {word}");
     }
     text.push_str(" |");
-    for word in errors.chunks_exact(6).take(answer.errors).flatten() {
+    for word in errors
+        .chunks_exact(ERROR_WORDS)
+        .take(answer.errors)
+        .flatten()
+    {
         let _ = write!(text, " {word}");
     }
     text
@@ -118,9 +123,9 @@ mod tests {
     fn a_line_in_and_out() {
         let out = answer_line("document 0 64 64 15:1 2:1 15:1 16:0").unwrap();
         assert_eq!(out, "0 0 3 0 | 5 0 0 1 7 0 1 2 8 0 2 3 |");
-        let out = answer_line("key 7 0 6").unwrap();
-        assert_eq!(out, "0 0 0 1 | | 4 4 0 0 0 0");
-        let out = answer_line("key 7 0 5 x:").unwrap();
+        let out = answer_line("key 7 0 7").unwrap();
+        assert_eq!(out, "0 0 0 1 | | 4 4 0 0 0 0 1");
+        let out = answer_line("key 7 0 6 x:").unwrap();
         assert_eq!(out, "8 0 0 1 | |");
         let out = answer_line("value 0 64 64 x:01000000 x:0f0000").unwrap();
         assert_eq!(out, "1 1 0 0 | |");

@@ -11,49 +11,19 @@ use crate::headers::Found;
 use crate::judged_compared;
 use crate::lexer::Token;
 use crate::lexer::TokenKind;
+use crate::numbers::ERROR_WORDS;
 use crate::records;
 use crate::texts;
 use crate::texts::Rooms;
-use crate::texts::Text;
+use crate::wrong::spoil;
+use crate::wrong::spoil_errors;
+use crate::wrong::Wrong;
 use crate::Answer;
 use crate::Entry;
 use crate::Judged;
 
 /// Bytes that are gathered before they are written.
 const GATHERED: usize = 800_000;
-
-/// Something else than the oracle gives that is asked for on purpose.
-#[derive(Copy, Clone, PartialEq, Eq, Debug)]
-pub enum Wrong {
-    /// At each report 13 what was expected is another.
-    Reports,
-    /// Each multi-line basic string of a text is a multi-line literal one.
-    Records,
-    /// What is not UTF-8 begins one byte later.
-    Places,
-    /// The last record of a text is not written.
-    Untouched,
-    /// A list with `{` in it fits if it does not, and the other way round.
-    Fits,
-    /// The same of a text.
-    TextFits,
-    /// A header of two key parts has one event less.
-    Index,
-    /// What is read from the entry of an array table says that it is none.
-    Entries,
-}
-
-/// All of them, with their names.
-pub const WRONGS: [(&str, Wrong); 8] = [
-    ("reports", Wrong::Reports),
-    ("records", Wrong::Records),
-    ("places", Wrong::Places),
-    ("untouched", Wrong::Untouched),
-    ("fits", Wrong::Fits),
-    ("text_fits", Wrong::TextFits),
-    ("index", Wrong::Index),
-    ("entries", Wrong::Entries),
-];
 
 /// What is to be written, and how many cases there were.
 pub struct Feed<W> {
@@ -97,7 +67,7 @@ impl<W: Write> Feed<W> {
     {
         let judged = judged_compared(case.entry, case.base, &case.bytes)?;
         let (events, errors) = judged.counts();
-        for (event_words, error_words) in rooms(4 * events, 6 * errors) {
+        for (event_words, error_words) in rooms(4 * events, ERROR_WORDS * errors) {
             case.event_words = event_words;
             case.error_words = error_words;
             self.put_judged(&case, &judged)?;
@@ -109,11 +79,11 @@ impl<W: Write> Feed<W> {
         let mut events = vec![0; case.event_words];
         let mut errors = vec![0; case.error_words];
         let answer = judged.answer(&mut events, &mut errors);
-        if self.wrong == Some(Wrong::Reports) {
-            let errors = errors.chunks_exact_mut(6);
-            errors
-                .filter(|error| error[0] == 13)
-                .for_each(|error| error[1] += 1);
+        if let Some(wrong) = self.wrong {
+            spoil_errors(
+                errors.chunks_exact_mut(ERROR_WORDS).take(answer.errors),
+                wrong,
+            );
         }
         frame::push_case(&mut self.out, case, &answer, &events, &errors);
         self.added(1)
@@ -252,28 +222,8 @@ impl<W: Write> Feed<W> {
     }
 }
 
-/// Makes what the text gives wrong.
-fn spoil(text: &mut Text, wrong: Wrong) {
-    match (text, wrong) {
-        (Text::Refused(refusal), Wrong::Places) if refusal.number == texts::NOT_UTF8 => {
-            refusal.place += 1;
-        }
-        (Text::Tokens { judged, .. }, Wrong::Reports) => {
-            if let Judged::Walked(lists, _) = judged {
-                let reports = lists.errors.iter_mut().filter(|error| error[0] == 13);
-                reports.for_each(|error| error[1] += 1);
-            }
-        }
-        (Text::Tokens { records, .. }, Wrong::Records) => {
-            let strings = records.chunks_exact_mut(6).filter(|record| record[4] == 14);
-            strings.for_each(|record| record[4] = 13);
-        }
-        (Text::Tokens { records, fits, .. }, Wrong::TextFits) => {
-            *fits ^= records.chunks_exact(6).any(|record| record[4] == 6);
-        }
-        _ => {}
-    }
-}
+/// Words to spare, for events and for errors: an entry and one word more.
+pub const SPARE: (usize, usize) = (5, ERROR_WORDS + 1);
 
 /// Words of room where so many are needed: none, one short, exact, or some to spare.
 pub fn room(which: usize, needed: usize, spare: usize) -> usize {
@@ -289,7 +239,7 @@ pub fn room(which: usize, needed: usize, spare: usize) -> usize {
 pub fn ample_and_another(turn: u64, events: usize, errors: usize) -> [(usize, usize); 2] {
     let (first, second) = ((turn % 4) as usize, (turn / 4 % 4) as usize);
     [(3, 3), (first, second)]
-        .map(|(first, second)| (room(first, events, 5), room(second, errors, 7)))
+        .map(|(first, second)| (room(first, events, SPARE.0), room(second, errors, SPARE.1)))
 }
 
 /// The length if the kind may have it, else the one that it must have.

@@ -30,6 +30,7 @@ use crate::headers;
 use crate::headers::Found;
 use crate::headers::Header;
 use crate::headers::Indexed;
+use crate::numbers::ERROR_WORDS;
 use crate::texts::Lexed;
 use crate::texts::Rooms;
 use crate::texts::Text;
@@ -52,7 +53,7 @@ pub fn push_case(out: &mut Vec<u8>, case: &Case, answer: &Answer, events: &[u32]
     push(out, answer.events);
     push(out, answer.errors);
     let event_words = 4 * answer.events.min(case.event_words / 4);
-    let error_words = 6 * answer.errors.min(case.error_words / 6);
+    let error_words = ERROR_WORDS * answer.errors.min(case.error_words / ERROR_WORDS);
     push(out, event_words);
     push(out, error_words);
     push_bytes(out, &case.bytes);
@@ -108,7 +109,7 @@ fn push_in_room(out: &mut Vec<u8>, text: &Text, written: usize, room: &Rooms) {
         &Rooms {
             record_bytes,
             event_words: 4 * parsed.events.min(room.event_words / 4),
-            error_words: 6 * parsed.errors.min(room.error_words / 6),
+            error_words: ERROR_WORDS * parsed.errors.min(room.error_words / ERROR_WORDS),
         },
     );
     push_verdict(out, &text.verdict(room.record_bytes, room.event_words));

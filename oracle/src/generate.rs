@@ -3,6 +3,7 @@
 use std::fmt::Write as _;
 
 use crate::batch::Case;
+use crate::numbers::ERROR_WORDS;
 use crate::prng::Prng;
 use crate::records::from_pairs;
 use crate::tomlish;
@@ -50,7 +51,7 @@ pub fn make(prng: &mut Prng, style: Style, entry: Option<Entry>, most: usize) ->
     };
     let tight = style != Style::Valid;
     let event_words = room(prng, 16 * (pairs.len() + 2), tight);
-    let error_words = room(prng, 18 * (pairs.len() + 2), tight);
+    let error_words = room(prng, 3 * ERROR_WORDS * (pairs.len() + 2), tight);
     let base = if style == Style::Valid {
         0
     } else {

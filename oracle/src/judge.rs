@@ -4,6 +4,7 @@
 //! of the unchanged original.
 
 use crate::lexer::Token;
+use crate::numbers::ERROR_WORDS;
 use crate::records;
 use crate::walk;
 use crate::walk::Lists;
@@ -180,7 +181,7 @@ fn write(lists: &Lists, stop: Option<usize>, events: &mut [u32], errors: &mut [u
     for (place, event) in events.chunks_exact_mut(4).zip(&lists.events) {
         place.copy_from_slice(event);
     }
-    for (place, error) in errors.chunks_exact_mut(6).zip(&lists.errors) {
+    for (place, error) in errors.chunks_exact_mut(ERROR_WORDS).zip(&lists.errors) {
         place.copy_from_slice(error);
     }
     answer(lists, stop, events.len(), errors.len())
@@ -191,7 +192,7 @@ fn answer(lists: &Lists, stop: Option<usize>, event_words: usize, error_words: u
     let (refusal, place) = match stop {
         Some(record) => (6, record),
         None if lists.events.len() > event_words / 4 => (7, 0),
-        None if lists.errors.len() > error_words / 6 => (8, 0),
+        None if lists.errors.len() > error_words / ERROR_WORDS => (8, 0),
         None => (0, 0),
     };
     Answer {

@@ -22,6 +22,7 @@ pub mod headers;
 // the original has a constant that only other files of its crate use
 #[allow(dead_code)]
 pub mod lexer;
+pub mod lines;
 pub mod listing;
 pub mod notation;
 pub mod numbers;
@@ -33,6 +34,7 @@ pub mod stream;
 pub mod texts;
 pub mod tomlish;
 pub mod walk;
+pub mod wrong;
 
 mod error;
 mod judge;

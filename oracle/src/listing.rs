@@ -3,6 +3,7 @@
 use std::fmt::Write as _;
 
 use crate::judge::Answer;
+use crate::numbers::ERROR_WORDS;
 use crate::numbers::EVENT_NAMES;
 
 /// The listing of an answer and what was written to the buffers.
@@ -15,7 +16,7 @@ pub fn listing(answer: &Answer, events: &[u32], errors: &[u32]) -> String {
         let name = EVENT_NAMES[event[0] as usize - 1];
         let _ = writeln!(text, "{name} {} {} {}", event[2], event[3], event[1]);
     }
-    for error in errors.chunks_exact(6).take(answer.errors) {
+    for error in errors.chunks_exact(ERROR_WORDS).take(answer.errors) {
         let _ = write!(text, "error");
         for word in error {
             let _ = write!(text, " {word}");

@@ -12,6 +12,7 @@ use oracle::generate;
 use oracle::generate::Style;
 use oracle::listing::listing;
 use oracle::notation;
+use oracle::numbers::ERROR_WORDS;
 use oracle::prng::Prng;
 use oracle::records;
 use oracle::texts;
@@ -126,7 +127,7 @@ fn list(entry: Entry, base: u32, options: &[&str]) -> Result<(), String> {
     let bytes = input()?;
     let counts = oracle::judge(entry, base, &bytes, &mut [], &mut []);
     let mut events = vec![0; rooms[0].unwrap_or(counts.events * 4)];
-    let mut errors = vec![0; rooms[1].unwrap_or(counts.errors * 6)];
+    let mut errors = vec![0; rooms[1].unwrap_or(counts.errors * ERROR_WORDS)];
     let answer = oracle::judge_compared(entry, base, &bytes, &mut events, &mut errors)?;
     put(listing(&answer, &events, &errors).as_bytes())
 }

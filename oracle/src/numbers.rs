@@ -3,9 +3,13 @@
 //! A text or list that is not known here is a loud failure, never a number.
 
 use crate::decoder::Encoding;
+use crate::lines::Lines;
 use crate::Expected;
 use crate::ParseError;
 use crate::Span;
+
+/// Words of an error record: those of the original's report, and the line.
+pub const ERROR_WORDS: usize = 7;
 
 /// Names of the events, the one numbered n at place n - 1.
 pub const EVENT_NAMES: [&str; 17] = [
@@ -96,8 +100,8 @@ pub fn encoding_number(encoding: Option<Encoding>) -> u32 {
     }
 }
 
-/// The six words of an error.
-pub fn error_words(error: &ParseError) -> [u32; 6] {
+/// The words of an error, its line being one of these.
+pub fn error_words(error: &ParseError, lines: &Lines) -> [u32; ERROR_WORDS] {
     let text = error.description();
     let message = MESSAGES.iter().position(|known| *known == text);
     let message = message.unwrap_or_else(|| panic!("message without a number: {text:?}"));
@@ -105,11 +109,9 @@ pub fn error_words(error: &ParseError) -> [u32; 6] {
     let expected = EXPECTED.iter().position(|known| *known == list);
     let expected = expected.unwrap_or_else(|| panic!("expected list without a number: {list:?}"));
     let [context_start, context_end] = span_words(error.context().expect("an error has a context"));
-    let [start, end] = span_words(
-        error
-            .unexpected()
-            .expect("an error has an unexpected place"),
-    );
+    let unexpected = error.unexpected();
+    let unexpected = unexpected.expect("an error has an unexpected place");
+    let [start, end] = span_words(unexpected);
     [
         message as u32 + 1,
         expected as u32 + 1,
@@ -117,6 +119,7 @@ pub fn error_words(error: &ParseError) -> [u32; 6] {
         context_end,
         start,
         end,
+        lines.line_of(unexpected.start()),
     ]
 }
 
@@ -140,11 +143,11 @@ mod tests {
     #[test]
     fn known_errors_have_numbers() {
         assert_eq!(
-            error_words(&error("unclosed array table", &[])),
-            [1, 1, 1, 2, 1, 2]
+            error_words(&error("unclosed array table", &[]), &Lines::of(&[])),
+            [1, 1, 1, 2, 1, 2, 1]
         );
         assert_eq!(
-            error_words(&error("extra `=`", EXPECTED[13]))[..2],
+            error_words(&error("extra `=`", EXPECTED[13]), &Lines::of(&[]))[..2],
             [29, 14]
         );
     }
@@ -152,12 +155,15 @@ mod tests {
     #[test]
     #[should_panic(expected = "message without a number")]
     fn an_unknown_message_is_loud() {
-        error_words(&error("no such message", &[]));
+        error_words(&error("no such message", &[]), &Lines::of(&[]));
     }
 
     #[test]
     #[should_panic(expected = "expected list without a number")]
     fn an_unknown_list_is_loud() {
-        error_words(&error("missing value", &[Expected::Literal("?")]));
+        error_words(
+            &error("missing value", &[Expected::Literal("?")]),
+            &Lines::of(&[]),
+        );
     }
 }

@@ -8,6 +8,7 @@ use crate::grammar;
 use crate::judge::judged_tokens;
 use crate::lexer::Token;
 use crate::lexer::TokenKind;
+use crate::numbers::ERROR_WORDS;
 use crate::records;
 use crate::records::Refusal;
 use crate::Entry;
@@ -122,7 +123,9 @@ pub fn fits(kinds: &[TokenKind], judged: &Judged) -> Result<bool, String> {
         return Err(format!("quiet is not fitting the wide grammar: {kinds:?}"));
     }
     if regular && fits != (lists.is_quiet() && !lists.has_multi_line_key()) {
-        return Err(format!("quiet with no multi-line key is not fitting: {kinds:?}"));
+        return Err(format!(
+            "quiet with no multi-line key is not fitting: {kinds:?}"
+        ));
     }
     Ok(fits)
 }
@@ -168,7 +171,7 @@ impl Text {
                 Rooms {
                     record_bytes: records.len(),
                     event_words: 4 * events,
-                    error_words: 6 * errors,
+                    error_words: ERROR_WORDS * errors,
                 }
             }
         }

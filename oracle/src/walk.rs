@@ -1,5 +1,5 @@
 //! Runs the original and its counted copy over tokens and keeps what they give as
-//! words.
+//! words, with the line of each error, which the original does not give.
 //!
 //! The original calls itself for nested values, for `=` after `=` and for content
 //! after comments, so a long list is walked on a thread with a large stack.
@@ -8,7 +8,9 @@ use std::cell::Cell;
 
 use crate::decoder::Encoding;
 use crate::lexer::Token;
+use crate::lines::Lines;
 use crate::numbers;
+use crate::numbers::ERROR_WORDS;
 use crate::parser;
 use crate::parser::CountingReceiver;
 use crate::parser::EventReceiver;
@@ -50,11 +52,11 @@ impl Entry {
     }
 }
 
-/// What a walk gave: events of four words and errors of six, in order.
+/// What a walk gave: events of four words, and errors, in order.
 #[derive(Clone, Default, PartialEq, Eq, Debug)]
 pub struct Lists {
     pub events: Vec<[u32; 4]>,
-    pub errors: Vec<[u32; 6]>,
+    pub errors: Vec<[u32; ERROR_WORDS]>,
 }
 
 impl Lists {
@@ -88,6 +90,7 @@ pub fn unchanged(entry: Entry, tokens: &[Token]) -> Lists {
         };
         let mut errors = Errors {
             list: Vec::new(),
+            lines: Lines::of(tokens),
             stop: &stop,
         };
         parse(tokens, &mut events, &mut errors);
@@ -116,6 +119,7 @@ pub fn counted(entry: Entry, tokens: &[Token], levels: usize) -> (Lists, Option<
         };
         let mut errors = Errors {
             list: Vec::new(),
+            lines: Lines::of(tokens),
             stop: &stop,
         };
         parse(tokens, &mut events, &mut errors);
@@ -255,16 +259,17 @@ impl CountingReceiver for Events<'_> {
     }
 }
 
-/// Keeps errors until the walk is stopped.
+/// Keeps errors until the walk is stopped, each with its line.
 struct Errors<'a> {
-    list: Vec<[u32; 6]>,
+    list: Vec<[u32; ERROR_WORDS]>,
+    lines: Lines,
     stop: &'a Cell<Option<usize>>,
 }
 
 impl ErrorSink for Errors<'_> {
     fn report_error(&mut self, error: ParseError) {
         if self.stop.get().is_none() {
-            self.list.push(numbers::error_words(&error));
+            self.list.push(numbers::error_words(&error, &self.lines));
         }
     }
 }

@@ -6,6 +6,7 @@ use oracle::generate;
 use oracle::generate::Style;
 use oracle::judge;
 use oracle::judge_compared;
+use oracle::numbers::ERROR_WORDS;
 use oracle::prng::Prng;
 use oracle::records::from_pairs;
 use oracle::walk;
@@ -129,7 +130,7 @@ fn longest_lists_on_which_the_original_calls_itself() {
     ] {
         for entry in [Entry::Document, Entry::Value] {
             let mut events = vec![0; 4 * 4 * 65_536];
-            let mut errors = vec![0; 6 * 4 * 65_536];
+            let mut errors = vec![0; ERROR_WORDS * 4 * 65_536];
             let bytes = from_pairs(&pairs);
             let answer = judge_compared(entry, 0, &bytes, &mut events, &mut errors).unwrap();
             let wanted = if entry == Entry::Value { refusal } else { 0 };

@@ -3,6 +3,7 @@
 use oracle::judge;
 use oracle::judge_compared;
 use oracle::judge_with_levels;
+use oracle::numbers::ERROR_WORDS;
 use oracle::records::from_pairs;
 use oracle::Answer;
 use oracle::Entry;
@@ -22,12 +23,12 @@ fn answer(refusal: u32, place: usize, events: usize, errors: usize) -> Answer {
 /// The answer with ample room, compared with the unchanged original.
 fn ample(entry: Entry, base: u32, bytes: &[u8]) -> Answer {
     let mut events = vec![UNTOUCHED; 4 * (bytes.len() + 8)];
-    let mut errors = vec![UNTOUCHED; 6 * (bytes.len() + 8)];
+    let mut errors = vec![UNTOUCHED; ERROR_WORDS * (bytes.len() + 8)];
     let answer = judge_compared(entry, base, bytes, &mut events, &mut errors).unwrap();
     assert!(events[4 * answer.events..]
         .iter()
         .all(|word| *word == UNTOUCHED));
-    assert!(errors[6 * answer.errors..]
+    assert!(errors[ERROR_WORDS * answer.errors..]
         .iter()
         .all(|word| *word == UNTOUCHED));
     answer
@@ -185,7 +186,14 @@ fn levels_are_a_parameter() {
         let found = judge_with_levels(Entry::Value, 0, &many(4, 5), levels, &mut [], &mut []);
         assert_eq!(found, answer(6, levels, levels, 0));
     }
-    let found = judge_with_levels(Entry::Value, 0, &many(4, 5), 5, &mut [0; 40], &mut [0; 30]);
+    let found = judge_with_levels(
+        Entry::Value,
+        0,
+        &many(4, 5),
+        5,
+        &mut [0; 40],
+        &mut [0; 5 * ERROR_WORDS],
+    );
     assert_eq!(found, answer(0, 0, 10, 5));
 }
 
@@ -210,28 +218,31 @@ fn refusals_7_and_8_are_lists_that_do_not_fit() {
         (found, events, errors)
     };
     let whole = [10, 0, 0, 1, 12, 0, 1, 1, 13, 0, 1, 2, 11, 0, 2, 3];
-    let error = [11, 9, 1, 2, 1, 1];
+    let error = [11, 9, 1, 2, 1, 1, 1];
     assert_eq!(
-        run(16, 6),
+        run(16, ERROR_WORDS),
         (answer(0, 0, 4, 1), whole.to_vec(), error.to_vec())
     );
-    let (found, events, errors) = run(15, 6);
+    let (found, events, errors) = run(15, ERROR_WORDS);
     assert_eq!((found, &errors[..]), (answer(7, 0, 4, 1), &error[..]));
     assert_eq!(
         (&events[..12], &events[12..]),
         (&whole[..12], &[UNTOUCHED; 3][..])
     );
-    let (found, events, errors) = run(19, 5);
-    assert_eq!((found, errors), (answer(8, 0, 4, 1), vec![UNTOUCHED; 5]));
+    let (found, events, errors) = run(19, ERROR_WORDS - 1);
+    assert_eq!(
+        (found, errors),
+        (answer(8, 0, 4, 1), vec![UNTOUCHED; ERROR_WORDS - 1])
+    );
     assert_eq!(
         (&events[..16], &events[16..]),
         (&whole[..], &[UNTOUCHED; 3][..])
     );
-    let (found, events, errors) = run(0, 11);
+    let (found, events, errors) = run(0, 2 * ERROR_WORDS - 1);
     assert_eq!((found, events), (answer(7, 0, 4, 1), vec![]));
     assert_eq!(
-        (&errors[..6], &errors[6..]),
-        (&error[..], &[UNTOUCHED; 5][..])
+        (&errors[..ERROR_WORDS], &errors[ERROR_WORDS..]),
+        (&error[..], &[UNTOUCHED; ERROR_WORDS - 1][..])
     );
     assert_eq!(run(0, 0).0, answer(7, 0, 4, 1));
 }

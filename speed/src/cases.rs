@@ -12,8 +12,8 @@ const DEPTH: usize = oracle::LEVELS;
 /// A token's kind and length.
 type Pair = (u16, u32);
 
-/// The records of a case, if there is one of that name. In the last two document.rs searches backward a lot: for a comma that is
-/// nowhere, and over newlines.
+/// The records of a case, if there is one of that name. In `commas`, `unclosed` and `fallen` document.rs searches backward a lot: for a comma
+/// that is nowhere, over newlines, and for a comma far back. `lines` has an error on each line; in `fallen` every other error is on the first.
 pub fn records(case: &str, size: usize) -> Option<Vec<u8>> {
     let pairs = match case {
         "jobs" => tokens(&jobs(size, 0)),
@@ -24,6 +24,8 @@ pub fn records(case: &str, size: usize) -> Option<Vec<u8>> {
         "scalars" => tokens(&scalars(size)),
         "commas" => tokens(&"x = {a=}\n".repeat(size)),
         "unclosed" => unclosed(size),
+        "lines" => tokens(&"a\n".repeat(size)),
+        "fallen" => tokens(&format!("x=[1,\n{}", "{a}\n".repeat(size))),
         _ => return None,
     };
     Some(records::from_pairs(&pairs))

@@ -15,9 +15,10 @@ mod tables;
 mod texts;
 
 use oracle::lexer::Token;
+use oracle::numbers::ERROR_WORDS;
 
 const USAGE: &str =
-    "usage: speed walk|check|time CASE SIZE | make CASE SIZE > FILE | text|alone|time-text FILE | find FILE PATH";
+    "usage: speed walk|reports|check|time CASE SIZE | make CASE SIZE > FILE | text|alone|time-text FILE | find FILE PATH";
 
 /// How long each side is repeated where times are taken.
 const WHILE: Duration = Duration::from_millis(500);
@@ -52,6 +53,10 @@ fn run(words: &[String]) -> Result<(), String> {
     let mut buffers = Buffers::for_tokens(tokens.len());
     match mode.as_str() {
         "walk" => walk(&bytes, &tokens, &mut buffers)?,
+        "reports" => {
+            walk(&bytes, &tokens, &mut buffers)?;
+            library::unreported(&bytes, &mut buffers);
+        }
         "check" => library::check(&cases::stopped_at_once(&bytes), &mut buffers),
         "time" => time(&bytes, &tokens, &mut buffers),
         _ => return Err(USAGE.to_string()),
@@ -70,7 +75,7 @@ impl Buffers {
     fn for_tokens(tokens: usize) -> Self {
         Self {
             events: vec![0; 4 * (3 * tokens + 2)],
-            errors: vec![0; 6 * (3 * tokens + 2)],
+            errors: vec![0; ERROR_WORDS * (3 * tokens + 2)],
         }
     }
 }
@@ -142,7 +147,7 @@ pub struct Counts {
 }
 
 /// Walks once on each side, sees that both gave the same, and prints `tokens events errors`. Of errors the four words of places are
-/// compared: the other two are an address on the Rust's side.
+/// compared: of the others two are an address on the Rust's side, and the line it does not give.
 fn walk(bytes: &[u8], tokens: &[Token], buffers: &mut Buffers) -> Result<(), String> {
     let counts = library::walk(bytes, buffers);
     let events = buffers.events[..4 * counts.events].to_vec();
@@ -160,7 +165,7 @@ fn walk(bytes: &[u8], tokens: &[Token], buffers: &mut Buffers) -> Result<(), Str
 
 /// Context and unexpected of each error.
 fn error_places(buffers: &Buffers, counts: Counts) -> Vec<[u32; 4]> {
-    let errors = buffers.errors.chunks_exact(6).take(counts.errors);
+    let errors = buffers.errors.chunks_exact(ERROR_WORDS).take(counts.errors);
     errors
         .map(|words| [words[2], words[3], words[4], words[5]])
         .collect()

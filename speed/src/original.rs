@@ -2,6 +2,7 @@
 
 use oracle::decoder::Encoding;
 use oracle::lexer::Token;
+use oracle::numbers::ERROR_WORDS;
 use oracle::parser;
 use oracle::parser::EventReceiver;
 use oracle::ErrorSink;
@@ -99,8 +100,8 @@ impl EventReceiver for Events<'_> {
     }
 }
 
-/// Six words an error; what does not fit is counted. For message and expected the address of the Rust's text and list is written:
-/// to look up their numbers would cost more, and the Rust does not need it.
+/// All words of an error but its line, which the Rust does not give; what does not fit is counted. For message and expected the address
+/// of the Rust's text and list is written: to look up their numbers would cost more, and the Rust does not need it.
 struct Errors<'a> {
     words: &'a mut [u32],
     count: usize,
@@ -108,11 +109,11 @@ struct Errors<'a> {
 
 impl ErrorSink for Errors<'_> {
     fn report_error(&mut self, error: ParseError) {
-        let at = 6 * self.count;
-        if let Some(place) = self.words.get_mut(at..at + 6) {
+        let at = ERROR_WORDS * self.count;
+        if let Some(place) = self.words.get_mut(at..at + ERROR_WORDS) {
             let context = error.context().unwrap_or_default();
             let unexpected = error.unexpected().unwrap_or_default();
-            place.copy_from_slice(&[
+            place[..ERROR_WORDS - 1].copy_from_slice(&[
                 error.description().as_ptr() as u32,
                 error.expected().unwrap_or_default().as_ptr() as u32,
                 context.start() as u32,

@@ -36,6 +36,8 @@ pub fn text(case: &str, size: usize) -> Option<Vec<u8>> {
                 .collect::<String>()
                 + "[last]\n"
         }
+        // lines, each with an error
+        "lines" => "a\n".repeat(size),
         // scalars
         "scalars" => cases::scalars(size),
         // pairs of bytes, or bytes

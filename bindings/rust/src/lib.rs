@@ -12,7 +12,7 @@
 //! let answer = room.parse_text(text.as_bytes());
 //! assert!(!answer.is_quiet());
 //! let error = answer.errors().next().unwrap();
-//! assert_eq!(error.to_string(), "missing comma between array elements at 5..5, expected `,`");
+//! assert_eq!(error.to_string(), "line 1: missing comma between array elements at 5..5, expected `,`");
 //! assert_eq!(&text[error.context.range()], "[");
 //! let comment = answer.events().find(|event| event.kind == EventKind::Comment).unwrap();
 //! assert_eq!(&text[comment.span.range()], "# two");

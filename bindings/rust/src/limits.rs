@@ -12,7 +12,7 @@ pub const RECORD_SIZE: usize = 6;
 /// Words of an event.
 pub const EVENT_SIZE: usize = 4;
 /// Words of an error.
-pub const ERROR_SIZE: usize = 6;
+pub const ERROR_SIZE: usize = 7;
 /// Bytes of an index entry.
 pub const ENTRY_SIZE: usize = 17;
 

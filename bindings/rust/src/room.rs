@@ -18,7 +18,10 @@ use crate::{Answer, Entry, TextAnswer};
 /// let answer = room.parse_text(text.as_bytes());
 /// assert!(!answer.is_quiet());
 /// let errors: Vec<String> = answer.errors().map(|error| error.to_string()).collect();
-/// assert_eq!(errors, ["unclosed array table at 4..4, expected `]`", "missing comma between array elements at 12..12, expected `,`"]);
+/// assert_eq!(
+///     errors,
+///     ["line 1: unclosed array table at 4..4, expected `]`", "line 2: missing comma between array elements at 12..12, expected `,`"],
+/// );
 /// ```
 #[derive(Clone, Debug, Default)]
 pub struct Room {

@@ -3,7 +3,7 @@
 mod common;
 
 use common::records;
-use deckmarten::limits::{enough_error_words, enough_event_words, MAX_DEPTH, MAX_RECORDS};
+use deckmarten::limits::{enough_error_words, enough_event_words, ERROR_SIZE, MAX_DEPTH, MAX_RECORDS};
 use deckmarten::{parse_document, parse_tokens, Encoding, Entry, EventKind, Expected, Message, Refusal, Room, TokenKind};
 
 /// Refusal, place and counts of the bytes as a document.
@@ -41,7 +41,7 @@ fn words_that_hold_no_entry_stay() {
     let answer = parse_document(list.as_bytes(), 0, &mut events, &mut errors);
     assert_eq!((answer.events().len(), answer.errors().len()), (3, 1));
     assert_eq!(events, [3, 0, 0, 2, 5, 0, 2, 3, 16, 0, 4, 5, 7, 7, 7]);
-    assert_eq!(errors, [1, 2, 0, 4, 4, 4, 7, 7, 7, 7, 7, 7, 7]);
+    assert_eq!(errors, [1, 2, 0, 4, 4, 4, 1, 7, 7, 7, 7, 7, 7]);
 }
 
 /// Lists that give many events or errors for their length; each bound is met by one of them.
@@ -60,7 +60,7 @@ fn the_bounds_are_kept_and_met() {
         }
     }
     assert!(events_met && errors_met);
-    assert_eq!((enough_event_words(10), enough_error_words(10)), (4 * 30, 6 * 21));
+    assert_eq!((enough_event_words(10), enough_error_words(10)), (4 * 30, ERROR_SIZE * 21));
 }
 
 #[test]

@@ -3,6 +3,7 @@
 mod common;
 
 use common::records;
+use deckmarten::limits::ERROR_SIZE;
 use deckmarten::TokenKind::{Atom, Comment, Eof, Equals, Newline, Whitespace};
 use deckmarten::{
     parse_key, parse_simple_key, parse_value, Answer, Encoding, Entry, EventKind, Expected, Message, Records, Room, Span, Token,
@@ -18,10 +19,10 @@ fn several_mistakes_are_reported_with_their_places() {
     assert_eq!(
         shown,
         [
-            "unclosed table at 2..2, expected `]`",
-            "key with no value at 4..4, expected `=`",
-            "missing comma between array elements at 10..10, expected `,`",
-            "missing table open at 14..14, expected `[`",
+            "line 1: unclosed table at 2..2, expected `]`",
+            "line 2: key with no value at 4..4, expected `=`",
+            "line 3: missing comma between array elements at 10..10, expected `,`",
+            "line 5: missing table open at 14..14, expected `[`",
         ]
     );
 }
@@ -53,7 +54,7 @@ fn places_start_at_base() {
 
 #[test]
 fn keys_and_values_have_entries_of_their_own() {
-    let (mut events, mut errors) = ([0; 40], [0; 60]);
+    let (mut events, mut errors) = ([0; 40], [0; 10 * ERROR_SIZE]);
     let kinds = |answer: Answer| answer.events().map(|event| event.kind).collect::<Vec<_>>();
     let key = parse_key(records("a.'").as_bytes(), 0, &mut events, &mut errors);
     assert!(key.is_quiet());

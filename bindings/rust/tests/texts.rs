@@ -28,7 +28,7 @@ fn listing(answer: &Answer) -> String {
     for error in answer.errors() {
         let (context, unexpected) = (error.context, error.unexpected);
         write!(lines, "error {} {}", error.message.number(), error.expected.number()).unwrap();
-        writeln!(lines, " {} {} {} {}", context.start, context.end, unexpected.start, unexpected.end).unwrap();
+        writeln!(lines, " {} {} {} {} {}", context.start, context.end, unexpected.start, unexpected.end, error.line).unwrap();
     }
     lines
 }

@@ -23,7 +23,8 @@ use Rattle.output.specs.declared.emitting.Counts.{Counts}
 use Rattle.output.specs.declared.emitting.Walk.{Walk}
 use Rattle.output.specs.Pour.{Bufs, bufs, refused, pour}
 use Rattle.entries.specs.Answers.{fresh}
-use Rattle.entries.proofs.PourLaws.{poured}
+use Rattle.line_numbers.specs.Numbering.{numbered}
+use Rattle.entries.proofs.PourLaws.{numberedBufs, poured}
 use Rattle.output.specs.Walks.{End, run, Goes}
 
 -- the outcome that buffers stand for, where the walk began with the buffers evs and ers
@@ -60,15 +61,15 @@ refusedOutcome place a b n = record { answer = record { refusal = 6; place = pla
 
 -- any items whose lists are no longer than the counts can be
 module _ (all : List Tok) (is : List Item) (evs ers : List ℕ) (h : length (eventsOf all is) ≤ 4294967295) (k : length (errorsOf all is) ≤ 4294967295) where
-  pub walked-from : (o : Bufs) → o ≡ pour all is (bufs evs ers fresh) → walked all is evs ers ≡ outcomeFrom all evs ers o
+  pub walked-from : (o : Bufs) → o ≡ pour all is (bufs evs ers fresh) → walked all is evs ers ≡ outcomeFrom all evs ers (numberedBufs all o)
   unfolding walked
-  walked-from o e = ap (outcomeFrom all evs ers) (sym (e ∙ poured all is evs ers h k))
+  walked-from o e = ap (outcomeFrom all evs ers) (sym (ap (numberedBufs all) e ∙ poured all is evs ers h k))
 
-  pub walked-ended : (a b : List ℕ) (n : Counts) → bufs a b n ≡ pour all is (bufs evs ers fresh) → walked all is evs ers ≡ endedOutcome evs ers a b n
+  pub walked-ended : (a b : List ℕ) (n : Counts) → bufs a b n ≡ pour all is (bufs evs ers fresh) → walked all is evs ers ≡ endedOutcome evs ers a (numbered all (n .errors) b) n
   unfolding bufs
   walked-ended a b n e = walked-from (bufs a b n) e
 
-  pub walked-refused : (a b : List ℕ) (n : Counts) (left : ℕ) → refused a b n left ≡ pour all is (bufs evs ers fresh) → walked all is evs ers ≡ refusedOutcome (length all - left) a b n
+  pub walked-refused : (a b : List ℕ) (n : Counts) (left : ℕ) → refused a b n left ≡ pour all is (bufs evs ers fresh) → walked all is evs ers ≡ refusedOutcome (length all - left) a (numbered all (n .errors) b) n
   unfolding refused
   walked-refused a b n left e = walked-from (refused a b n left) e
 
@@ -85,14 +86,14 @@ module _ (entry : Entry) (s : List ℕ) (base : ℕ) (evs ers : List ℕ) (p : c
   passed-outcome = ap (λ (c : Checked). outcomeBy c entry s base evs ers) p
 
   pub outcome-ended : (a b : List ℕ) (n : Counts) → bufs a b n ≡ pour (allTokens s base) (parse entry (allTokens s base) .items) (bufs evs ers fresh)
-      → outcome entry s base evs ers ≡ endedOutcome evs ers a b n
+      → outcome entry s base evs ers ≡ endedOutcome evs ers a (numbered (allTokens s base) (n .errors) b) n
   outcome-ended a b n e = passed-outcome ∙ walked-ended (allTokens s base) (parse entry (allTokens s base) .items) evs ers (fits .0) (fits .1) a b n e
 
   pub outcome-stopped : (a b : List ℕ) (n : Counts) (left : ℕ) → refused a b n left ≡ pour (allTokens s base) (parse entry (allTokens s base) .items) (bufs evs ers fresh)
-      → outcome entry s base evs ers ≡ refusedOutcome (count s - left) a b n
+      → outcome entry s base evs ers ≡ refusedOutcome (count s - left) a (numbered (allTokens s base) (n .errors) b) n
   outcome-stopped a b n left e =
       passed-outcome ∙ walked-refused (allTokens s base) (parse entry (allTokens s base) .items) evs ers (fits .0) (fits .1) a b n left e
-      ∙ ap (λ (m : ℕ). refusedOutcome (m - left) a b n) (all-length s base)
+      ∙ ap (λ (m : ℕ). refusedOutcome (m - left) a (numbered (allTokens s base) (n .errors) b) n) (all-length s base)
 
 -- an entry on a list that the check refused
 pub outcome-unread : (entry : Entry) (s : List ℕ) (base : ℕ) (evs ers : List ℕ) (r place : ℕ) → checked s base ≡ Checked.Refused r place

@@ -2,9 +2,10 @@
 use mathlib.Core.Path.{_≡_, ap, sym, subst, _∙_}
 use mathlib.Core.Bool.{Bool, true, false}
 use mathlib.Core.List.{List}
-use Prim.Native.Nat.{ℕ, suc, _-_, _/_}
+use Prim.Native.Nat.{ℕ, suc, _-_, _/_, _≤_}
 use native.Mathlib.Omega.{arith}
 use lib.ListN.{length}
+use Rattle.token.specs.Limits.{maxRecords}
 use Rattle.token.specs.Records.{count}
 use Rattle.token.specs.Tokens.{Tok, allTokens, tokensAt, At, Good}
 use Rattle.token.specs.Check.{checked}
@@ -19,6 +20,7 @@ use Rattle.rules.specs.Entries.{Entry, parse}
 use Rattle.rules.specs.Answer.{eventSize, errorSize, outcome}
 use Rattle.output.specs.declared.emitting.Counts.{Counts}
 use Rattle.output.specs.Pour.{bufs, pour}
+use Rattle.line_numbers.specs.Numbering.{numbered}
 use Rattle.entries.proofs.AnswerLaws.{outcome-ended, outcome-stopped}
 use Rattle.nest.specs.declared.nest.NestWalk.{NestWalk}
 use Rattle.nest.specs.Nested.{outOf, Nested}
@@ -35,6 +37,10 @@ begun-start {s} {base} x e = subst (Begins s base) e x
 -- a cursor at the start of a list that the check let through
 pub start-good : {s : List ℕ} {base : ℕ} {c : Cursor} {n : Counts} → Starts s base c n → Good s c
 start-good {s} {base} {c} x = passed-good s base c (checked-passes s base (x .passed)) (x .at)
+
+-- and it has not too many records
+pub start-few : {s : List ℕ} {base : ℕ} {c : Cursor} {n : Counts} → Starts s base c n → count s ≤ maxRecords
+start-few {s} {base} x = checked-passes s base (x .passed) .few
 
 -- the walk of an entry by its rule, which from the start is the rule on all tokens
 pub entered : {s : List ℕ} {base : ℕ} {c : Cursor} {n : Counts} {events errors a b : List ℕ} {v : NestWalk} (entry : Entry) (rule : List Tok → Out)
@@ -53,23 +59,25 @@ entered {s} {base} {c} {n} entry rule q x w h k =
     }
 
 module _ (entry : Entry) (s : List ℕ) (base : ℕ) (evs ers : List ℕ) (p : checked s base ≡ Checked.Passed) (a b : List ℕ) (v : NestWalk) (g : Good s (v .cur)) where
-  by-stop : (y : Bool) → outOf y s a b (v .n) (v .cur) ≡ pour (allTokens s base) (parse entry (allTokens s base) .items) (bufs evs ers fresh) → record { answer = answerBy y v (length evs / eventSize) (length ers / errorSize); events = a; errors = b } ≡ outcome entry s base evs ers
+  by-stop : (y : Bool) → outOf y s a b (v .n) (v .cur) ≡ pour (allTokens s base) (parse entry (allTokens s base) .items) (bufs evs ers fresh) → record { answer = answerBy y v (length evs / eventSize) (length ers / errorSize); events = a; errors = numbered (allTokens s base) (v .n .errors) b } ≡ outcome entry s base evs ers
   by-stop false e = sym (outcome-ended entry s base evs ers p a b (v .n) e)
   by-stop true e =
       let z : v .cur .at - 1 ≡ count s - suc (length (tokensAt s (v .cur))) = omega (arith, left-length s (v .cur), g .low) in
-      ap (λ (i : ℕ). record { answer = record { refusal = 6; place = i; events = v .n .events; errors = v .n .errors }; events = a; errors = b }) z
+      ap (λ (i : ℕ). record { answer = record { refusal = 6; place = i; events = v .n .events; errors = v .n .errors }; events = a; errors = numbered (allTokens s base) (v .n .errors) b }) z
       ∙ sym (outcome-stopped entry s base evs ers p a b (v .n) (suc (length (tokensAt s (v .cur)))) e)
 
--- the answer of an entry's walk v, closed as v', is the answer of the rules
-pub entry-answers : {entry : Entry} {s : List ℕ} {base : ℕ} {evs ers a b a' b' : List ℕ} {v v' : NestWalk} (x : Entered entry s base evs ers a b v)
-    → Nested s (x .g then eof) (x .c) (bufs evs ers (x .n)) a' b' v' → length a' ≡ length a → length b' ≡ length b
-    → (told : Answer) → told ≡ answerOf v' (length a' / eventSize) (length b' / errorSize) → Answers entry s base evs ers a' b' told
-entry-answers {entry} {s} {base} {evs} {ers} {a' = a'} {b'} {v' = v'} x w h k told t =
+-- the answer of an entry's walk v, closed as v', with its errors numbered, is the answer of the rules
+pub entry-answers : {entry : Entry} {s : List ℕ} {base : ℕ} {evs ers a b a' b' b″ : List ℕ} {v v' : NestWalk} (x : Entered entry s base evs ers a b v)
+    → Nested s (x .g then eof) (x .c) (bufs evs ers (x .n)) a' b' v' → b″ ≡ numbered (allTokens s (v .cur .base)) (v' .n .errors) b' → length a' ≡ length a → length b″ ≡ length b
+    → (told : Answer) → told ≡ answerOf v' (length a' / eventSize) (length b″ / errorSize) → Answers entry s base evs ers a' b″ told
+entry-answers {entry} {s} {base} {evs} {ers} {a' = a'} {b'} {b″} {v = v} {v'} x w d h k told t =
     let wrote : outOf (v' .stopped) s a' b' (v' .n) (v' .cur) ≡ pour (allTokens s base) (parse entry (allTokens s base) .items) (bufs evs ers fresh) =
     w .wrote base (x .start .at .base)
     ∙ ap (λ (z : Out). pour (allTokens s base) (z .items) (bufs evs ers (x .n))) (x .rule)
     ∙ ap (λ (z : Counts). pour (allTokens s base) (parse entry (allTokens s base) .items) (bufs evs ers z)) (x .start .none) in
-    ap (λ (z : Answer). record { answer = z; events = a'; errors = b' }) t
-    ∙ ap (λ (i : ℕ). record { answer = answerOf v' (i / eventSize) (length b' / errorSize); events = a'; errors = b' }) (h ∙ x .events-kept)
-    ∙ ap (λ (i : ℕ). record { answer = answerOf v' (length evs / eventSize) (i / errorSize); events = a'; errors = b' }) (k ∙ x .errors-kept)
+    let lines : b″ ≡ numbered (allTokens s base) (v' .n .errors) b' = d ∙ ap (λ (i : ℕ). numbered (allTokens s i) (v' .n .errors) b') (x .walk .base ∙ x .start .at .base) in
+    ap (λ (z : Answer). record { answer = z; events = a'; errors = b″ }) t
+    ∙ ap (λ (i : ℕ). record { answer = answerOf v' (i / eventSize) (length b″ / errorSize); events = a'; errors = b″ }) (h ∙ x .events-kept)
+    ∙ ap (λ (i : ℕ). record { answer = answerOf v' (length evs / eventSize) (i / errorSize); events = a'; errors = b″ }) (k ∙ x .errors-kept)
+    ∙ ap (λ (l : List ℕ). record { answer = answerOf v' (length evs / eventSize) (length ers / errorSize); events = a'; errors = l }) lines
     ∙ by-stop entry s base evs ers (x .start .passed) a' b' v' (w .good) (v' .stopped) wrote

@@ -1,3 +1,5 @@
+pub mod FillLaws
+pub mod NumberLaws
 pub mod PourLaws
 pub mod AnswerLaws
 pub mod EntryLaws

@@ -4,6 +4,7 @@ use documents::document::document;
 use keys::keys::key;
 use keys::keys::simple_key;
 use line_ends::eof::eof;
+use line_numbers::numbering::number_errors;
 use nest::nest::NestWalk;
 use nest::nest::unstopped;
 use output::emitting::Counts;
@@ -16,8 +17,11 @@ use token::checked::Checked;
 use token::cursor::Cursor;
 use values::value::value;
 ghost use mathlib.Core.Path.{_≡_};
+ghost use Prim.Native.Nat.{_≤_};
 ghost use Rattle.token.specs.declared.checked.Checked.{Checked};
 ghost use Rattle.token.specs.Check.{checked};
+ghost use Rattle.token.specs.Limits.{maxRecords};
+ghost use Rattle.token.specs.Records.{count};
 ghost use Rattle.token.specs.Tokens.{Good};
 ghost use Rattle.rules.specs.Entries.{documentEntry, keyEntry, simpleKeyEntry, valueEntry};
 ghost use Rattle.entries.specs.Answers.{Answers, Answered, Begins, Closed, answerOf};
@@ -95,12 +99,17 @@ fn answer_of(v: NestWalk, event_room: usize, error_room: usize) -> Answer
     counted(0, 0, n)
 }
 
-// What every entry ends with: what is left behind its walk, and the answer.
+// What every entry ends with: what is left behind its walk, the lines of the errors, and the answer.
 fn answered(s: &[u8], w: NestWalk, events: &mut [u32], errors: &mut [u32]) -> Answer
     requires { ⌜ Good (now s) (w .cur) ⌝ }
+    requires { ⌜ count (now s) ≤ maxRecords ⌝ }
     ensures { λ r. ⌜ Answered (now (s .entry)) w (now (events .entry)) (now (errors .entry)) (now (events .exit)) (now (errors .exit)) r ⌝ }
 {
+    let cur = w.cur;
+    let base = cur.base;
     let v = closing(s, w, events, errors);
+    let n = v.n;
+    number_errors(s, base, n.errors, errors);
     answer_of(v, events.len() / EVENT_WORDS, errors.len() / ERROR_WORDS)
 }
 
@@ -124,10 +133,7 @@ pub fn parse_document(s: &[u8], base: u32, events: &mut [u32], errors: &mut [u32
     let begun = begin(s, base);
     match begun {
         Begun::Refused(answer) => answer,
-        Begun::Start(c, m) => {
-            let w = document(s, c, m, MAX_DEPTH, events, errors);
-            answered(s, w, events, errors)
-        }
+        Begun::Start(_, _) => read_document(s, base, events, errors),
     }
 }
 

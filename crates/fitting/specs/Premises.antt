@@ -85,7 +85,7 @@ abbrev pub textEnd : ℕ → List Tok → ℕ
 textEnd p [] = p
 textEnd p (tok k a b ∷ ts) = textEnd b ts
 
--- the first n events in a buffer, each four words: kind, encoding, start, end
+-- the first n events in a buffer: kind, encoding, start and end of each
 unfoldable pub eventsIn : ℕ → List ℕ → List (List ℕ)
 eventsIn zero buffer = []
 eventsIn (suc n) buffer = take eventSize buffer ∷ eventsIn n (drop eventSize buffer)

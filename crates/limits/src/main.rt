@@ -10,12 +10,10 @@ use crate::lists::LEFT;
 use crate::lists::RIGHT;
 use crate::lists::fill;
 use crate::lists::put;
+use crate::showing::AMPLE;
 use crate::showing::show;
 ghost use Prim.Native.Nat.{_*_, _≤_};
 ghost use lib.ListN.{length};
-
-// Words of room for 256 events.
-const AMPLE: usize = 1024;
 
 // A key, an equals sign, and so many arrays within one another.
 fn nested_arrays(depth: usize)

@@ -1,8 +1,15 @@
 // What comes of a list, printed as a line.
 use entries::entries::parse_document;
 use rules::answer::Answer;
+use rules::answer::ERROR_WORDS;
+use rules::answer::EVENT_WORDS;
 ghost use Prim.Native.Nat.{_≤_};
 ghost use lib.ListN.{length};
+
+// Words of room for 256 events, and for ten errors.
+pub const AMPLE: usize = 256 * EVENT_WORDS;
+
+const ERROR_ROOM: usize = 10 * ERROR_WORDS;
 
 fn print_number(n: usize) {
     io::write_all(1, b" ");
@@ -30,10 +37,10 @@ fn print_last(events: &[u32], stored: usize) {
         io::write_all(1, b", no event\n");
         return;
     }
-    if stored > events.len() / 4 {
+    if stored > events.len() / EVENT_WORDS {
         return;
     }
-    let at = 4 * (stored - 1);
+    let at = EVENT_WORDS * (stored - 1);
     io::write_all(1, b", last event");
     print_word(events[at]);
     print_word(events[at + 1]);
@@ -46,11 +53,11 @@ fn print_last(events: &[u32], stored: usize) {
 pub fn show(list: &[u8], base: u32, room: usize)
     requires { ⌜ room ≤ 1024 ⌝ }
 {
-    let mut events = [0u32; 1024];
-    let mut errors = [0u32; 60];
+    let mut events = [0u32; AMPLE];
+    let mut errors = [0u32; ERROR_ROOM];
     let a = parse_within(list, base, &mut events, room, &mut errors);
     print_answer(a);
-    print_last(&events, least(a.events, room / 4));
+    print_last(&events, least(a.events, room / EVENT_WORDS));
 }
 
 fn parse_within(

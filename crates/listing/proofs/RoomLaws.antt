@@ -16,7 +16,7 @@ use Rattle.rules.specs.declared.event.Event.{Event}
 use Rattle.rules.specs.Out.{Item, event, eventAfter, report, stop}
 use Rattle.rules.specs.Words.{eventNumber, eventsOf, errorsOf, Halt, ended, refusedLevel, haltOf}
 use Rattle.rules.specs.Entries.{Entry, parse}
-use Rattle.rules.specs.Answer.{Outcome, filled, refusalBy, walked, outcomeBy, outcome}
+use Rattle.rules.specs.Answer.{eventSize, errorSize, Outcome, filled, refusalBy, walked, outcomeBy, outcome}
 use Rattle.entries.specs.Answers.{Answers}
 use Rattle.rules.proofs.BufferLaws.{word-in}
 use Rattle.rules.proofs.OutcomeLaws.{events-sized}
@@ -52,10 +52,10 @@ words-named all (report m x c u ∷ is) i h = words-named all is i h
 words-named all (stop n ∷ is) i h = let f : ⊥ = omega arith in absurd f
 
 -- and in a buffer in which all events fit
-filled-named : (all : List Tok) (is : List Item) (events : List ℕ) → length (eventsOf all is) ≤ length events / 4 → AllNamed (filled 4 (eventsOf all is) events) (length (eventsOf all is))
+filled-named : (all : List Tok) (is : List Item) (events : List ℕ) → length (eventsOf all is) ≤ length events / eventSize → AllNamed (filled eventSize (eventsOf all is) events) (length (eventsOf all is))
 filled-named all is events h i l =
-    let at : i * 4 + 0 ≡ 4 * i = omega arith in
-    subst (λ (k : ℕ). Named (getD (filled 4 (eventsOf all is) events) k 0)) at
+    let at : i * eventSize + 0 ≡ eventSize * i = omega arith in
+    subst (λ (k : ℕ). Named (getD (filled eventSize (eventsOf all is) events) k 0)) at
     (subst Named (sym (word-in events i 0 0 (events-sized all is) h l (omega arith))) (words-named all is i l))
 
 -- where the answer is no refusal, its counts are at most the room, and its events are named
@@ -68,23 +68,23 @@ no-shortage ended false true q = let h : ⊥ = omega arith in absurd h
 no-shortage ended false false q = (refl, refl)
 no-shortage (refusedLevel n) x y q = let h : ⊥ = omega arith in absurd h
 
-walked-fits : (all : List Tok) (is : List Item) (events errors : List ℕ) → Fits (length events / 4) (length errors / 6) (walked all is events errors)
+walked-fits : (all : List Tok) (is : List Item) (events errors : List ℕ) → Fits (length events / eventSize) (length errors / errorSize) (walked all is events errors)
 unfolding walked
 walked-fits all is events errors q =
-    let f = no-shortage (haltOf is) (ltb (length events / 4) (length (eventsOf all is))) (ltb (length errors / 6) (length (errorsOf all is))) q in
+    let f = no-shortage (haltOf is) (ltb (length events / eventSize) (length (eventsOf all is))) (ltb (length errors / errorSize) (length (errorsOf all is))) q in
     (ltb-false _ _ (f .0), ltb-false _ _ (f .1), filled-named all is events (ltb-false _ _ (f .0)))
 
-by-check : (k : Checked) (entry : Entry) (s : List ℕ) (base : ℕ) (events errors : List ℕ) → Fits (length events / 4) (length errors / 6) (outcomeBy k entry s base events errors)
+by-check : (k : Checked) (entry : Entry) (s : List ℕ) (base : ℕ) (events errors : List ℕ) → Fits (length events / eventSize) (length errors / errorSize) (outcomeBy k entry s base events errors)
 by-check (Checked.Refused r place) entry s base events errors q = (omega arith, omega arith, λ i l. let f : ⊥ = omega (arith, l) in absurd f)
 by-check Checked.Passed entry s base events errors q = walked-fits (allTokens s base) (parse entry (allTokens s base) .items) events errors q
 
-outcome-fits : (entry : Entry) (s : List ℕ) (base : ℕ) (events errors : List ℕ) → Fits (length events / 4) (length errors / 6) (outcome entry s base events errors)
+outcome-fits : (entry : Entry) (s : List ℕ) (base : ℕ) (events errors : List ℕ) → Fits (length events / eventSize) (length errors / errorSize) (outcome entry s base events errors)
 unfolding outcome
 outcome-fits entry s base events errors = by-check (checked s base) entry s base events errors
 
 -- so each counted entry lies within the buffer that the entry left, and each event there is named
 pub within : (entry : Entry) (s : List ℕ) (base : ℕ) (events errors a b : List ℕ) (r : Answer) → Answers entry s base events errors a b r
-    → length a ≡ length events → length b ≡ length errors → r .refusal ≡ 0 → (4 * r .events ≤ length a) × (6 * r .errors ≤ length b) × AllNamed a (r .events)
+    → length a ≡ length events → length b ≡ length errors → r .refusal ≡ 0 → (eventSize * r .events ≤ length a) × (errorSize * r .errors ≤ length b) × AllNamed a (r .events)
 within entry s base events errors a b r e l m q =
-    let f = subst (Fits (length events / 4) (length errors / 6)) (sym e) (outcome-fits entry s base events errors) q in
+    let f = subst (Fits (length events / eventSize) (length errors / errorSize)) (sym e) (outcome-fits entry s base events errors) q in
     (omega (arith, f .0, l), omega (arith, f .1, m), f .2)

@@ -9,14 +9,21 @@ use crate::printing::print_events;
 use crate::printing::print_head;
 use crate::printing::print_refusal;
 use entries::entries::parse_document;
+use rules::answer::ERROR_WORDS;
+use rules::answer::EVENT_WORDS;
 
 // The most bytes that are listed: 512 records.
 const MOST: usize = 3072;
 
-// Lists the records s, with room for 1,600 events and 512 errors.
+// Room for 1,600 events and for 512 errors.
+const EVENT_ROOM: usize = 1600 * EVENT_WORDS;
+
+const ERROR_ROOM: usize = 512 * ERROR_WORDS;
+
+// Lists the records s.
 fn list(s: &[u8]) {
-    let mut events = [0u32; 6400];
-    let mut errors = [0u32; 3072];
+    let mut events = [0u32; EVENT_ROOM];
+    let mut errors = [0u32; ERROR_ROOM];
     let answer = parse_document(s, 0, &mut events, &mut errors);
     let refusal = answer.refusal;
     if refusal != 0 {

@@ -1,7 +1,10 @@
 // The lines of a listing, written to standard output.
 use crate::naming::print_name;
+use rules::answer::ERROR_WORDS;
+use rules::answer::EVENT_WORDS;
 ghost use Prim.Native.Nat.{_+_, _*_, _≤_};
 ghost use lib.ListN.{getD, length};
+ghost use Rattle.rules.specs.Answer.{errorSize, eventSize};
 ghost use Rattle.listing.specs.Named.{AllNamed, Named};
 
 // A space and the number n.
@@ -28,7 +31,7 @@ pub fn print_head(events: usize, errors: usize) {
 
 // The event at word `at`: its name, start, end and encoding.
 fn print_event(words: &[u32], at: usize)
-    requires { ⌜ at + 4 ≤ length (now words) ⌝ }
+    requires { ⌜ at + eventSize ≤ length (now words) ⌝ }
     requires { ⌜ Named (getD (now words) at 0) ⌝ }
 {
     print_name(words[at]);
@@ -38,39 +41,45 @@ fn print_event(words: &[u32], at: usize)
     io::write_all(1, b"\n");
 }
 
-// The error at word `at`: its six words in order.
+// So many words from word `at` on, in order.
+fn print_words(words: &[u32], at: usize, count: usize)
+    requires { ⌜ at + count ≤ length (now words) ⌝ }
+{
+    let mut i: usize = 0;
+    while i < count {
+        print_number(words[at + i]);
+        i = i + 1;
+    }
+}
+
+// The error at word `at`: its words in order, the line last.
 fn print_error(words: &[u32], at: usize)
-    requires { ⌜ at + 6 ≤ length (now words) ⌝ }
+    requires { ⌜ at + errorSize ≤ length (now words) ⌝ }
 {
     io::write_all(1, b"error");
-    print_number(words[at]);
-    print_number(words[at + 1]);
-    print_number(words[at + 2]);
-    print_number(words[at + 3]);
-    print_number(words[at + 4]);
-    print_number(words[at + 5]);
+    print_words(words, at, ERROR_WORDS);
     io::write_all(1, b"\n");
 }
 
 // The first `count` events.
 pub fn print_events(words: &[u32], count: usize)
-    requires { ⌜ 4 * count ≤ length (now words) ⌝ }
+    requires { ⌜ eventSize * count ≤ length (now words) ⌝ }
     requires { ⌜ AllNamed (now words) count ⌝ }
 {
     let mut i: usize = 0;
     while i < count {
-        print_event(words, 4 * i);
+        print_event(words, EVENT_WORDS * i);
         i = i + 1;
     }
 }
 
 // The first `count` errors.
 pub fn print_errors(words: &[u32], count: usize)
-    requires { ⌜ 6 * count ≤ length (now words) ⌝ }
+    requires { ⌜ errorSize * count ≤ length (now words) ⌝ }
 {
     let mut i: usize = 0;
     while i < count {
-        print_error(words, 6 * i);
+        print_error(words, ERROR_WORDS * i);
         i = i + 1;
     }
 }

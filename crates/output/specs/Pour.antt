@@ -13,7 +13,7 @@ use Rattle.rules.specs.Words.{eventNumber, encodingOf, lookedUp, spanOf, Halt, 
 use Rattle.rules.specs.Answer.{eventSize, errorSize}
 use Rattle.output.specs.declared.emitting.Counts.{Counts}
 
--- entry i of a buffer, if there is room for it
+-- entry i of a buffer, if there is room for it; the last word of an error, its line, is left as it is
 unfoldable pub putEvent : List ℕ → ℕ → ℕ → ℕ → ℕ → ℕ → List ℕ
 putEvent l i a b c d = cond (ltb i (length l / eventSize)) (set (set (set (set l (i * eventSize) a) (i * eventSize + 1) b) (i * eventSize + 2) c) (i * eventSize + 3) d) l
 

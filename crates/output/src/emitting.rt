@@ -1,4 +1,5 @@
 // Emitting: the words of an event, or of an error, into the lent buffers. What does not fit is counted and not written.
+// The last word of an error, its line, is left as it is: the crate line_numbers fills it in when the walk is over.
 use rules::answer::ERROR_WORDS;
 use rules::answer::EVENT_WORDS;
 use rules::event::Encoding;
@@ -58,14 +59,17 @@ fn put_error(
 )
     ensures { λ _. ⌜ now (errors .exit) ≡ putError (now (errors .entry)) i message expected «from» to start end ⌝ }
 {
-    if i < errors.len() / ERROR_WORDS {
+    // As `i < errors.len() / ERROR_WORDS`, without a division, which would be made ahead of every loop that has an error to report.
+    if i < errors.len() {
         let b = i * ERROR_WORDS;
-        errors[b] = message;
-        errors[b + 1] = expected;
-        errors[b + 2] = from;
-        errors[b + 3] = to;
-        errors[b + 4] = start;
-        errors[b + 5] = end;
+        if b + 6 < errors.len() {
+            errors[b] = message;
+            errors[b + 1] = expected;
+            errors[b + 2] = from;
+            errors[b + 3] = to;
+            errors[b + 4] = start;
+            errors[b + 5] = end;
+        }
     }
 }
 

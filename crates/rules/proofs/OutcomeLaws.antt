@@ -14,7 +14,7 @@ use Rattle.rules.specs.Words.{eventsOf, errorsOf}
 use Rattle.rules.specs.Answer.{eventSize, errorSize, Outcome, joined, filled, walked, outcomeBy, outcome}
 use Rattle.rules.proofs.BufferLaws.{Sized, sizedNone, sizedEntry, joined-known, take-entries, filled-length}
 
--- an event has four words, an error six
+-- the entries have the size of an event, and of an error
 pub events-sized : (all : List Tok) (is : List Item) → Sized eventSize (eventsOf all is)
 events-sized all [] = sizedNone
 events-sized all (event g a b ∷ is) = sizedEntry refl (events-sized all is)

@@ -8,27 +8,34 @@ use Rattle.token.specs.Tokens.{tokensFrom, allTokens}
 use Rattle.token.specs.Check.{checkedFrom, checked}
 use Rattle.rules.specs.Turns.{turns}
 use Rattle.rules.specs.Nest.{onOpen}
+use Rattle.rules.specs.Lines.{lineOf}
 use Rattle.rules.specs.Words.{lookedUp}
 use Rattle.rules.specs.Entries.{documentEntry}
 use Rattle.rules.specs.Answer.{outcome, walked, filled}
 use Rattle.rules.specs.Texts.{texts, furtherTexts, asWritten, asRuled, writtenOutcomes, ruledOutcomes}
+use Rattle.rules.specs.LineTexts.{lineTexts, linesWritten, linesRuled}
 
 -- the fourteen texts of document 01
 pub texts-as-read : asRuled texts ≡ asWritten texts
-unfolding texts turns onOpen lookedUp
+unfolding texts turns onOpen lookedUp lineOf
 texts-as-read = refl
 
 pub further-texts-as-read : asRuled furtherTexts ≡ asWritten furtherTexts
-unfolding furtherTexts turns onOpen lookedUp
+unfolding furtherTexts turns onOpen lookedUp lineOf
 further-texts-as-read = refl
+
+-- the lines that surprise
+pub lines-as-read : linesRuled lineTexts ≡ linesWritten lineTexts
+unfolding lineTexts turns onOpen lookedUp lineOf
+lines-as-read = refl
 
 -- the same from record bytes: answer and both buffers, whatever word w these hold beforehand
 pub texts-in-buffers : (w : ℕ) → ruledOutcomes w texts ≡ writtenOutcomes w texts
-unfolding texts turns onOpen lookedUp kindOf lengthAt kindNumberAt tokensFrom allTokens checkedFrom checked outcome walked filled
+unfolding texts turns onOpen lookedUp lineOf kindOf lengthAt kindNumberAt tokensFrom allTokens checkedFrom checked outcome walked filled
 texts-in-buffers w = refl
 
 pub further-texts-in-buffers : (w : ℕ) → ruledOutcomes w furtherTexts ≡ writtenOutcomes w furtherTexts
-unfolding furtherTexts turns onOpen lookedUp kindOf lengthAt kindNumberAt tokensFrom allTokens checkedFrom checked outcome walked filled
+unfolding furtherTexts turns onOpen lookedUp lineOf kindOf lengthAt kindNumberAt tokensFrom allTokens checkedFrom checked outcome walked filled
 further-texts-in-buffers w = refl
 
 -- text 4 once more, each byte and each word written out
@@ -39,7 +46,7 @@ pub text-four
     ≡ record {
       answer = record { refusal = 0; place = 0; events = 3; errors = 1 };
       events = 3 ∷ 0 ∷ 0 ∷ 2 ∷ 5 ∷ 0 ∷ 2 ∷ 3 ∷ 16 ∷ 0 ∷ 4 ∷ 5 ∷ w ∷ w ∷ [];
-      errors = 1 ∷ 2 ∷ 0 ∷ 4 ∷ 4 ∷ 4 ∷ w ∷ w ∷ [];
+      errors = 1 ∷ 2 ∷ 0 ∷ 4 ∷ 4 ∷ 4 ∷ 1 ∷ w ∷ [];
     }
-unfolding turns onOpen lookedUp kindOf lengthAt kindNumberAt tokensFrom allTokens checkedFrom checked outcome walked filled
+unfolding turns onOpen lookedUp lineOf kindOf lengthAt kindNumberAt tokensFrom allTokens checkedFrom checked outcome walked filled
 text-four w = refl

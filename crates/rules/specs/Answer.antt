@@ -17,7 +17,7 @@ abbrev pub eventSize : ℕ
 eventSize = 4
 
 abbrev pub errorSize : ℕ
-errorSize = 6
+errorSize = 7
 
 -- the answer and the buffers after it
 pub record Outcome : Type 0 where

@@ -14,9 +14,11 @@ pub mod Value
 pub mod Table
 pub mod Document
 pub mod Entries
+pub mod Lines
 pub mod Words
 pub mod Answer
 pub mod TextWords
 pub mod Texts
+pub mod LineTexts
 pub mod Costs
 pub mod KeyCosts

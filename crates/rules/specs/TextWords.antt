@@ -61,7 +61,7 @@ abbrev pub words : ℕ → ℕ → List ℕ
 words w zero = []
 words w (suc n) = w ∷ words w n
 
--- the four words of an event from a to b, by the numbers of docs/LAYOUT.md: kind, encoding, start, end
+-- the words of an event from a to b, by the numbers of docs/LAYOUT.md: kind, encoding, start, end
 abbrev pub stdTableOpen : ℕ → ℕ → List ℕ
 stdTableOpen a b = 1 ∷ 0 ∷ a ∷ b ∷ []
 
@@ -110,6 +110,6 @@ newline a b = 16 ∷ 0 ∷ a ∷ b ∷ []
 abbrev pub error : ℕ → ℕ → List ℕ
 error a b = 17 ∷ 0 ∷ a ∷ b ∷ []
 
--- the six words of a report: message, expected, context a..b, unexpected c..d
-abbrev pub reported : ℕ → ℕ → ℕ → ℕ → ℕ → ℕ → List ℕ
-reported message expected a b c d = message ∷ expected ∷ a ∷ b ∷ c ∷ d ∷ []
+-- the words of a report: message, expected, context a..b, unexpected c..d, line
+abbrev pub reported : ℕ → ℕ → ℕ → ℕ → ℕ → ℕ → ℕ → List ℕ
+reported message expected a b c d line = message ∷ expected ∷ a ∷ b ∷ c ∷ d ∷ line ∷ []

@@ -34,7 +34,7 @@ texts =
     -- 4: `[[a]` and a newline
     ∷ at documentEntry (openSquare ∷ openSquare ∷ atom 1 ∷ closeSquare ∷ lineEnd ∷ eof ∷ [])
     (arrayTableOpen 0 2 ∷ simpleKey 2 3 ∷ newline 4 5 ∷ [])
-    (reported 1 2 0 4 4 4 ∷ [])
+    (reported 1 2 0 4 4 4 1 ∷ [])
     -- 5: `[=` and a newline; no report
     ∷ at documentEntry (openSquare ∷ equals ∷ lineEnd ∷ eof ∷ [])
     (stdTableOpen 0 1 ∷ simpleKey 1 1 ∷ error 1 2 ∷ newline 2 3 ∷ [])
@@ -42,11 +42,11 @@ texts =
     -- 6: `x={[x]}`
     ∷ at documentEntry (atom 1 ∷ equals ∷ openCurly ∷ openSquare ∷ atom 1 ∷ closeSquare ∷ closeCurly ∷ eof ∷ [])
     (simpleKey 0 1 ∷ keyValSep 1 2 ∷ inlineTableOpen 2 3 ∷ error 3 4 ∷ error 4 5 ∷ arrayClose 5 6 ∷ inlineTableClose 6 7 ∷ [])
-    (reported 17 4 2 3 3 3 ∷ [])
+    (reported 17 4 2 3 3 3 1 ∷ [])
     -- 7: `x={a=}`
     ∷ at documentEntry (atom 1 ∷ equals ∷ openCurly ∷ atom 1 ∷ equals ∷ closeCurly ∷ eof ∷ [])
     (simpleKey 0 1 ∷ keyValSep 1 2 ∷ inlineTableOpen 2 3 ∷ simpleKey 3 4 ∷ keyValSep 4 5 ∷ inlineTableClose 5 6 ∷ [])
-    (reported 19 1 2 3 5 5 ∷ [])
+    (reported 19 1 2 3 5 5 1 ∷ [])
     -- 8: `x={}`
     ∷ at documentEntry (atom 1 ∷ equals ∷ openCurly ∷ closeCurly ∷ eof ∷ [])
     (simpleKey 0 1 ∷ keyValSep 1 2 ∷ inlineTableOpen 2 3 ∷ inlineTableClose 3 4 ∷ [])
@@ -54,9 +54,9 @@ texts =
     -- 9: `x={a=[`; the inline table is closed by an array_close
     ∷ at documentEntry (atom 1 ∷ equals ∷ openCurly ∷ atom 1 ∷ equals ∷ openSquare ∷ eof ∷ [])
     (simpleKey 0 1 ∷ keyValSep 1 2 ∷ inlineTableOpen 2 3 ∷ simpleKey 3 4 ∷ keyValSep 4 5 ∷ arrayOpen 5 6 ∷ arrayClose 6 6 ∷ arrayClose 6 6 ∷ [])
-    (reported 7 2 5 6 6 6 ∷ reported 14 10 2 3 6 6 ∷ [])
+    (reported 7 2 5 6 6 6 1 ∷ reported 14 10 2 3 6 6 1 ∷ [])
     -- 10: the key entry, the empty list
-    ∷ at keyEntry [] [] (reported 4 4 0 0 0 0 ∷ [])
+    ∷ at keyEntry [] [] (reported 4 4 0 0 0 0 1 ∷ [])
     -- 11: the key entry, `a.` without Eof
     ∷ at keyEntry (atom 1 ∷ dot ∷ [])
     (simpleKey 0 1 ∷ keySep 1 2 ∷ simpleKey 2 2 ∷ [])
@@ -68,11 +68,11 @@ texts =
     -- 13: `x=[1 "b"]`
     ∷ at documentEntry (atom 1 ∷ equals ∷ openSquare ∷ atom 1 ∷ space ∷ basicString 3 ∷ closeSquare ∷ eof ∷ [])
     (simpleKey 0 1 ∷ keyValSep 1 2 ∷ arrayOpen 2 3 ∷ scalar 3 4 ∷ whitespace 4 5 ∷ valueSep 5 5 ∷ basicScalar 5 8 ∷ arrayClose 8 9 ∷ [])
-    (reported 10 8 2 3 5 5 ∷ [])
+    (reported 10 8 2 3 5 5 1 ∷ [])
     -- 14: `x=[}]`
     ∷ at documentEntry (atom 1 ∷ equals ∷ openSquare ∷ closeCurly ∷ closeSquare ∷ eof ∷ [])
     (simpleKey 0 1 ∷ keyValSep 1 2 ∷ arrayOpen 2 3 ∷ inlineTableOpen 3 3 ∷ inlineTableClose 3 4 ∷ arrayClose 4 5 ∷ [])
-    (reported 11 9 3 4 3 3 ∷ [])
+    (reported 11 9 3 4 3 3 1 ∷ [])
     ∷ []
 
 -- not of document 01: how the oracle reads them
@@ -82,7 +82,7 @@ furtherTexts =
     at documentEntry (atom 1 ∷ equals ∷ openSquare ∷ atom 1 ∷ comma ∷ atom 1 ∷ closeSquare ∷ lineEnd ∷ atom 1 ∷ equals ∷ openCurly ∷ atom 1 ∷ equals ∷ closeCurly ∷ eof ∷ [])
     (simpleKey 0 1 ∷ keyValSep 1 2 ∷ arrayOpen 2 3 ∷ scalar 3 4 ∷ valueSep 4 5 ∷ scalar 5 6 ∷ arrayClose 6 7 ∷ newline 7 8
     ∷ simpleKey 8 9 ∷ keyValSep 9 10 ∷ inlineTableOpen 10 11 ∷ simpleKey 11 12 ∷ keyValSep 12 13 ∷ inlineTableClose 13 14 ∷ [])
-    (reported 19 1 10 11 4 5 ∷ [])
+    (reported 19 1 10 11 4 5 1 ∷ [])
     -- `[=ledger]` and a newline: an empty key, and no report
     ∷ at documentEntry (openSquare ∷ equals ∷ atom 6 ∷ closeSquare ∷ lineEnd ∷ eof ∷ [])
     (stdTableOpen 0 1 ∷ simpleKey 1 1 ∷ error 1 2 ∷ error 2 8 ∷ error 8 9 ∷ newline 9 10 ∷ [])

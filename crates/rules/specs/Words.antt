@@ -8,6 +8,7 @@ use Rattle.token.specs.Spans.{spanAfter}
 use Rattle.token.specs.Search.{nearest}
 use Rattle.rules.specs.declared.event.Encoding.{Encoding}
 use Rattle.rules.specs.declared.event.Event.{Event}
+use Rattle.rules.specs.Lines.{lineOf}
 use Rattle.rules.specs.Out.{Look, Place, span, found, afterFound, upToFound, Item, event, eventAfter, report, stop}
 
 abbrev pub encodingNumber : Encoding → ℕ
@@ -70,9 +71,9 @@ spanOf all (upToFound a l) = record { start = a; end = lookedUp all l .end }
 abbrev pub eventWords : Event → Span → List ℕ
 eventWords g p = eventNumber g ∷ encodingOf g ∷ p .start ∷ p .end ∷ []
 
--- an error: message, expected, context start and end, unexpected start and end
-abbrev pub errorWords : ℕ → ℕ → Span → Span → List ℕ
-errorWords m x c u = m ∷ x ∷ c .start ∷ c .end ∷ u .start ∷ u .end ∷ []
+-- an error: message, expected, context start and end, unexpected start and end, and the line of the unexpected start
+abbrev pub errorWords : List Tok → ℕ → ℕ → Span → Span → List ℕ
+errorWords all m x c u = m ∷ x ∷ c .start ∷ c .end ∷ u .start ∷ u .end ∷ lineOf all (u .start) ∷ []
 
 -- the events, and the errors, up to a refusal
 abbrev pub eventsOf : List Tok → List Item → List (List ℕ)
@@ -86,7 +87,7 @@ abbrev pub errorsOf : List Tok → List Item → List (List ℕ)
 errorsOf all [] = []
 errorsOf all (event g a b ∷ is) = errorsOf all is
 errorsOf all (eventAfter g l ∷ is) = errorsOf all is
-errorsOf all (report m x c u ∷ is) = errorWords m x (spanOf all c) (spanOf all u) ∷ errorsOf all is
+errorsOf all (report m x c u ∷ is) = errorWords all m x (spanOf all c) (spanOf all u) ∷ errorsOf all is
 errorsOf all (stop n ∷ is) = []
 
 -- whether the walk went to its end, or one more level was refused with n tokens left

@@ -2,7 +2,7 @@
 
 pub const EVENT_WORDS: usize = 4;
 
-pub const ERROR_WORDS: usize = 6;
+pub const ERROR_WORDS: usize = 7;
 
 // The refusal's number (0 if none), its place, and how many events and errors there are.
 pub struct Answer {

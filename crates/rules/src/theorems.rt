@@ -1,6 +1,7 @@
 // Theorems about the rules alone, each the contract of a function that does nothing.
 ghost use mathlib.Core.Path.{_≡_};
 ghost use Rattle.rules.specs.Texts.{texts, furtherTexts, asRuled, asWritten, ruledOutcomes, writtenOutcomes};
+ghost use Rattle.rules.specs.LineTexts.{lineTexts, linesRuled, linesWritten};
 
 // The rules read each of document 01's fourteen texts as it was read by hand.
 pub fn texts_as_read()
@@ -15,4 +16,9 @@ pub fn texts_in_buffers(word: u32)
 // Further texts, not of document 01, are read as the oracle reads them.
 pub fn further_texts_as_read()
     ensures { λ _. ⌜ asRuled furtherTexts ≡ asWritten furtherTexts ⌝ }
+{}
+
+// The lines of texts in which they surprise.
+pub fn lines_as_read()
+    ensures { λ _. ⌜ linesRuled lineTexts ≡ linesWritten lineTexts ⌝ }
 {}

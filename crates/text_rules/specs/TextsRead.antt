@@ -104,7 +104,7 @@ strangeTexts =
     ∷ gives (ascii "a='''\n[b]\nc=1\n") 0 (simpleKey 0 1 ∷ keyValSep 1 2 ∷ mlLiteralScalar 2 14 ∷ []) []
     -- eight apostrophes are one string, the ninth starts another
     ∷ gives (ascii "a=''''''''") 0 (simpleKey 0 1 ∷ keyValSep 1 2 ∷ mlLiteralScalar 2 10 ∷ []) []
-    ∷ gives (ascii "a='''''''''") 0 (simpleKey 0 1 ∷ keyValSep 1 2 ∷ mlLiteralScalar 2 10 ∷ error 10 11 ∷ []) (reported 23 11 10 11 10 10 ∷ [])
+    ∷ gives (ascii "a='''''''''") 0 (simpleKey 0 1 ∷ keyValSep 1 2 ∷ mlLiteralScalar 2 10 ∷ error 10 11 ∷ []) (reported 23 11 10 11 10 10 1 ∷ [])
     -- an escape takes one quote, and is not judged
     ∷ gives (ascii "a=\"\"\"\\\"\"\"") 0 (simpleKey 0 1 ∷ keyValSep 1 2 ∷ mlBasicScalar 2 9 ∷ []) []
     ∷ gives (ascii "a=\"\\q\"") 0 (simpleKey 0 1 ∷ keyValSep 1 2 ∷ basicScalar 2 6 ∷ []) []
@@ -117,13 +117,13 @@ strangeTexts =
     ∷ gives (97 ∷ 61 ∷ 0 ∷ []) 0 (simpleKey 0 1 ∷ keyValSep 1 2 ∷ scalar 2 3 ∷ []) []
     ∷ gives (195 ∷ 169 ∷ 61 ∷ 195 ∷ 169 ∷ []) 0 (simpleKey 0 2 ∷ keyValSep 2 3 ∷ scalar 3 5 ∷ []) []
     ∷ gives (ascii "a=1\"2\"") 0 (simpleKey 0 1 ∷ keyValSep 1 2 ∷ scalar 2 6 ∷ []) []
-    ∷ gives (ascii "a=\"b\"c") 0 (simpleKey 0 1 ∷ keyValSep 1 2 ∷ basicScalar 2 5 ∷ error 5 6 ∷ []) (reported 23 11 5 6 5 5 ∷ [])
+    ∷ gives (ascii "a=\"b\"c") 0 (simpleKey 0 1 ∷ keyValSep 1 2 ∷ basicScalar 2 5 ∷ error 5 6 ∷ []) (reported 23 11 5 6 5 5 1 ∷ [])
     -- a byte order mark is skipped, a second one is an atom
     ∷ gives (239 ∷ 187 ∷ 191 ∷ []) 3 [] []
     ∷ gives (239 ∷ 187 ∷ 191 ∷ 97 ∷ 61 ∷ 239 ∷ 187 ∷ 191 ∷ []) 3 (simpleKey 3 4 ∷ keyValSep 4 5 ∷ scalar 5 8 ∷ []) []
     -- unquoted scalars are not judged; whitespace and then a dot do not go on with one
     ∷ gives (ascii "a=1.") 0 (simpleKey 0 1 ∷ keyValSep 1 2 ∷ scalar 2 4 ∷ []) []
-    ∷ gives (ascii "a=1 .") 0 (simpleKey 0 1 ∷ keyValSep 1 2 ∷ scalar 2 3 ∷ whitespace 3 4 ∷ error 4 5 ∷ []) (reported 23 11 3 5 4 4 ∷ [])
+    ∷ gives (ascii "a=1 .") 0 (simpleKey 0 1 ∷ keyValSep 1 2 ∷ scalar 2 3 ∷ whitespace 3 4 ∷ error 4 5 ∷ []) (reported 23 11 3 5 4 4 1 ∷ [])
     ∷ []
 
 -- the base, events and reports that are answered, and what the buffers begin with

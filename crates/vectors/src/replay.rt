@@ -12,6 +12,13 @@ use entries::entries::parse_key;
 use entries::entries::parse_simple_key;
 use entries::entries::parse_value;
 use rules::answer::Answer;
+use rules::answer::ERROR_WORDS;
+use rules::answer::EVENT_WORDS;
+
+// Room for the most events and errors that a case may have.
+const EVENT_ROOM: usize = 1024 * EVENT_WORDS;
+
+const ERROR_ROOM: usize = 512 * ERROR_WORDS;
 
 // The entries are numbered as ENTRIES of oracle/src/walk.rs has them.
 fn parse(entry: u32, s: &[u8], base: u32, events: &mut [u32], errors: &mut [u32]) -> Answer {
@@ -57,8 +64,8 @@ fn run(c: Case, s: &[u8], events: &mut [u32], errors: &mut [u32]) -> Ran {
 
 // All that the buffers hold is compared, also what lies beyond the room.
 fn compare(fd: i32, c: Case, s: &[u8]) -> Compared {
-    let mut events = [UNTOUCHED; 4096];
-    let mut errors = [UNTOUCHED; 3072];
+    let mut events = [UNTOUCHED; EVENT_ROOM];
+    let mut errors = [UNTOUCHED; ERROR_ROOM];
     let Ran::Answered(a) = run(c, s, &mut events, &mut errors) else {
         return Compared::Broken;
     };

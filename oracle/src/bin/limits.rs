@@ -4,6 +4,7 @@
 use std::process::ExitCode;
 
 use oracle::feeding::right_length;
+use oracle::numbers::ERROR_WORDS;
 use oracle::records;
 use oracle::walk;
 use oracle::Entry;
@@ -56,7 +57,7 @@ fn print() -> Result<(), String> {
 fn show(name: &str, runs: &[(u16, usize)], base: u32, room: usize) -> Result<(), String> {
     let kinds = runs.iter().flat_map(|(kind, count)| vec![*kind; *count]);
     let pairs: Vec<(u16, u32)> = kinds.map(|kind| (kind, right_length(kind, 1))).collect();
-    let (mut events, mut errors) = (vec![0; room], vec![0; 60]);
+    let (mut events, mut errors) = (vec![0; room], vec![0; 10 * ERROR_WORDS]);
     let bytes = records::from_pairs(&pairs);
     let a = oracle::judge_compared(Entry::Document, base, &bytes, &mut events, &mut errors)?;
     print!(

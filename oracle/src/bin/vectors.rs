@@ -14,11 +14,16 @@ use std::process::ExitCode;
 use oracle::batch::Case;
 use oracle::feeding;
 use oracle::feeding::room;
+use oracle::feeding::SPARE;
 use oracle::generate;
 use oracle::generate::Style;
+use oracle::lines::SURPRISING;
 use oracle::notation;
+use oracle::numbers::ERROR_WORDS;
 use oracle::prng::Prng;
 use oracle::records;
+use oracle::texts;
+use oracle::texts::Text;
 use oracle::walk;
 use oracle::walk::ENTRIES;
 use oracle::Entry;
@@ -26,7 +31,7 @@ use oracle::Entry;
 /// The most bytes and words that the replay program has room for.
 const MOST_BYTES: usize = 4096;
 const MOST_EVENT_WORDS: usize = 4096;
-const MOST_ERROR_WORDS: usize = 3072;
+const MOST_ERROR_WORDS: usize = 512 * ERROR_WORDS;
 /// Rooms for events and errors, in turn: see [`room`].
 const ROOMS: [(usize, usize); 8] = [
     (3, 3),
@@ -90,6 +95,7 @@ fn make(folder: &Path) -> Result<(), String> {
     };
     maker.class("the fourteen texts", texts)?;
     maker.class("texts at other bases", based)?;
+    maker.class("lines that may surprise", surprising)?;
     maker.class("every list of up to two tokens", short)?;
     for (name, style, count, most) in DRAWN {
         maker.class(name, |maker| drawn(maker, style, count, most))?;
@@ -126,8 +132,9 @@ impl Maker {
     fn put(&mut self, case: Case, rooms: &[(usize, usize)]) -> Result<(), String> {
         let mut fits = case.bytes.len() <= MOST_BYTES;
         self.feed.put_in_rooms(case, |events, errors| {
-            fits &= events + 5 <= MOST_EVENT_WORDS && errors + 7 <= MOST_ERROR_WORDS;
-            let sized = |&(first, second)| (room(first, events, 5), room(second, errors, 7));
+            fits &= events + SPARE.0 <= MOST_EVENT_WORDS && errors + SPARE.1 <= MOST_ERROR_WORDS;
+            let sized =
+                |&(first, second)| (room(first, events, SPARE.0), room(second, errors, SPARE.1));
             rooms.iter().map(sized).collect::<Vec<_>>()
         })?;
         fits.then_some(()).ok_or("a list is too long".to_string())
@@ -152,12 +159,30 @@ fn fourteen() -> Vec<Vec<u8>> {
 /// The texts at each entry, in four rooms: none, one word short, exact, with words to spare.
 fn texts(maker: &mut Maker) -> Result<(), String> {
     for bytes in fourteen() {
-        for (_, entry) in ENTRIES {
-            let rooms = [(0, 0), (1, 1), (2, 2), (3, 3)];
-            maker.put(Case::at(entry, 0, bytes.clone()), &rooms)?;
-        }
+        in_four_rooms(maker, 0, &bytes)?;
     }
     Ok(())
+}
+
+fn in_four_rooms(maker: &mut Maker, base: u32, bytes: &[u8]) -> Result<(), String> {
+    for (_, entry) in ENTRIES {
+        let rooms = [(0, 0), (1, 1), (2, 2), (3, 3)];
+        maker.put(Case::at(entry, base, bytes.to_vec()), &rooms)?;
+    }
+    Ok(())
+}
+
+/// The texts of [`SURPRISING`] as the lexer reads them, nothing behind a byte order mark, and
+/// the shortest list whose lines fall.
+fn surprising(maker: &mut Maker) -> Result<(), String> {
+    for (text, _) in SURPRISING {
+        let Text::Tokens { base, records, .. } = texts::judge(text.as_bytes())? else {
+            return Err(format!("{text:?} is refused"));
+        };
+        in_four_rooms(maker, base, &records)?;
+    }
+    in_four_rooms(maker, 3, &[])?;
+    in_four_rooms(maker, 0, &listed(&[6, 10, 10]))
 }
 
 fn based(maker: &mut Maker) -> Result<(), String> {

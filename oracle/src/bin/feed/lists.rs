@@ -6,6 +6,7 @@ use oracle::feeding::right_length;
 use oracle::feeding::room;
 use oracle::generate;
 use oracle::generate::Style;
+use oracle::numbers::ERROR_WORDS;
 use oracle::prng::Prng;
 use oracle::records;
 use oracle::tomlish;
@@ -144,7 +145,7 @@ fn put_at_all(feed: &mut Feed, base: u32, bytes: Vec<u8>, prng: &mut Prng) -> Re
             which => room(which, needed, 1 + prng.below(3 * size)),
         };
         feed.put_in_rooms(Case::at(entry, base, bytes.clone()), |events, errors| {
-            [(drawn(events, 4), drawn(errors, 6))]
+            [(drawn(events, 4), drawn(errors, ERROR_WORDS))]
         })?;
     }
     Ok(())

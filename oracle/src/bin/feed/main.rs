@@ -20,7 +20,7 @@
 //!
 //! `--part K/N` behind these takes only the K-th of N parts of the texts. `--wrong WHAT` at
 //! the end asks for something else than the oracle gives, to show that the comparison
-//! can fail; src/feeding.rs says what.
+//! can fail; src/wrong.rs says what.
 
 use std::io::BufRead as _;
 use std::io::Stdout;
@@ -30,10 +30,10 @@ use oracle::batch;
 use oracle::batch::number;
 use oracle::batch::Case;
 use oracle::feeding;
-use oracle::feeding::Wrong;
-use oracle::feeding::WRONGS;
 use oracle::texts::Rooms;
 use oracle::walk;
+use oracle::wrong::Wrong;
+use oracle::wrong::WRONGS;
 use oracle::Answer;
 use oracle::Entry;
 

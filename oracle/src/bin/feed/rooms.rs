@@ -1,5 +1,6 @@
 //! Rooms for texts, by what a text needs.
 
+use oracle::feeding::SPARE;
 use oracle::prng::Prng;
 use oracle::texts::Rooms;
 
@@ -7,8 +8,8 @@ use oracle::texts::Rooms;
 pub fn ample(needs: &Rooms) -> Rooms {
     Rooms {
         record_bytes: needs.record_bytes + 8,
-        event_words: needs.event_words.max(4 * (needs.record_bytes / 6)) + 5,
-        error_words: needs.error_words + 7,
+        event_words: needs.event_words.max(4 * (needs.record_bytes / 6)) + SPARE.0,
+        error_words: needs.error_words + SPARE.1,
     }
 }
 

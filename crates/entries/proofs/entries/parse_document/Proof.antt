@@ -1,10 +1,7 @@
--- A list that the check refuses is not read; else the walk from the start, and the end that all entries have.
+-- A list that the check refuses is not read; else it is what the walk promises.
 -- Made by ./proofs from Proof.tmpl: change that.
-use mathlib.Core.Path.{refl}
 use Rattle.rules.specs.Entries.{documentEntry}
-use Rattle.rules.specs.Limits.{maxDepth}
-use Rattle.rules.specs.Document.{document}
-use Rattle.entries.proofs.EntryLaws.{begun-refused, begun-start, start-good, entered}
+use Rattle.entries.proofs.EntryLaws.{begun-refused, begun-start}
 use borrow.Author.Needs.{needs}
 use Rattle.entries.proofs.entries.parse_document.Statement.{statement}
 use Rattle.entries.proofs.entries.parse_document.Tie as tie
@@ -15,14 +12,11 @@ begin-requires c κs = search needs
 enum-known-begun : tie.Need-enum-known-begun
 enum-known-begun c = search needs
 
-enum-known-begun-2 : tie.Need-enum-known-begun-2
-enum-known-begun-2 c = search needs
+enum-told : tie.Need-enum-told
+enum-told c = search needs
 
-document-requires : tie.Need-document-requires
-document-requires c κs = start-good (begun-start ((c .before .before .before .before .before .begin) .ensures) ((c .before .before .before .begun2) .given .1))
-
-answered-requires : tie.Need-answered-requires
-answered-requires c κs = ((c .before .before .before .before .before .before .document) .ensures) .good
+read-document-requires : tie.Need-read-document-requires
+read-document-requires c κs = begun-start ((c .before .before .before .before .begin) .ensures) ((c .before .before .enum-told) .given .1) .passed
 
 returns : tie.Need-returns
 returns c = begun-refused ((c .before .before .before .before .before .before .before .args) .s .now) ((c .before .before .before .before .before .before .before .args) .base) ((c .before .before .before .begin) .ensures) ((c .before .begun) .given .1) documentEntry _ _
@@ -34,7 +28,7 @@ same-length-2 : tie.Need-same-length-2
 same-length-2 c = search needs
 
 returns-2 : tie.Need-returns-2
-returns-2 c = (c .before .before .before .before .answered) .ensures documentEntry _ _ _ (entered documentEntry (document maxDepth) refl (begun-start ((c .before .before .before .before .before .before .before .before .before .before .before .before .before .before .before .before .before .begin) .ensures) ((c .before .before .before .before .before .before .before .before .before .before .before .before .before .before .before .begun2) .given .1)) ((c .before .before .before .before .before .before .before .before .before .before .before .document) .ensures) ((c .before .before .before .before .before .before .before .before .before .before .before .document) .kept .1 .1 .1 .1 .0) ((c .before .before .before .before .before .before .before .before .before .before .before .document) .kept .1 .1 .1 .1 .1 .0))
+returns-2 c = (c .before .before .before .before .read-document) .ensures
 
 pub parse-document-spec : {M : Type 1} → statement M
 parse-document-spec =
@@ -42,9 +36,8 @@ parse-document-spec =
     (tie.spec
     begin-requires
     enum-known-begun
-    enum-known-begun-2
-    document-requires
-    answered-requires
+    enum-told
+    read-document-requires
     returns
     same-length
     same-length-2

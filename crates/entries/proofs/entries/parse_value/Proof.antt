@@ -4,7 +4,7 @@ use mathlib.Core.Path.{refl}
 use Rattle.rules.specs.Entries.{valueEntry}
 use Rattle.rules.specs.Limits.{maxDepth}
 use Rattle.rules.specs.Value.{value}
-use Rattle.entries.proofs.EntryLaws.{begun-refused, begun-start, start-good, entered}
+use Rattle.entries.proofs.EntryLaws.{begun-refused, begun-start, start-good, start-few, entered}
 use borrow.Author.Needs.{needs}
 use Rattle.entries.proofs.entries.parse_value.Statement.{statement}
 use Rattle.entries.proofs.entries.parse_value.Tie as tie
@@ -22,7 +22,7 @@ value-requires : tie.Need-value-requires
 value-requires c κs = start-good (begun-start ((c .before .before .before .before .before .begin) .ensures) ((c .before .before .before .begun2) .given .1))
 
 answered-requires : tie.Need-answered-requires
-answered-requires c κs = ((c .before .before .before .before .before .before .value) .ensures) .good
+answered-requires c κs = (((c .before .before .before .before .before .before .value) .ensures) .good, start-few (begun-start ((c .before .before .before .before .before .before .before .before .before .before .before .before .begin) .ensures) ((c .before .before .before .before .before .before .before .before .before .before .begun2) .given .1)))
 
 returns : tie.Need-returns
 returns c = begun-refused ((c .before .before .before .before .before .before .before .args) .s .now) ((c .before .before .before .before .before .before .before .args) .base) ((c .before .before .before .begin) .ensures) ((c .before .begun) .given .1) valueEntry _ _

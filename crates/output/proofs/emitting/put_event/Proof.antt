@@ -1,4 +1,4 @@
--- Four words, where there is room.
+-- The words of an event, where there is room.
 -- Made by ./proofs from Proof.tmpl: change that.
 use native.Mathlib.Omega.{arith}
 use lib.ListN.{length-set}

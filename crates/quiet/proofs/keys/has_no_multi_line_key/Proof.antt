@@ -4,6 +4,7 @@ use native.Mathlib.Omega.{arith}
 use mathlib.Core.Path.{_≡_, sym, _∙_}
 use Prim.Native.Nat.{_/_, _*_}
 use lib.ListN.{length}
+use Rattle.rules.specs.Answer.{eventSize}
 use Rattle.quiet.proofs.MultiLineKeyLaws.{multi-line-loud, none-beyond, two-words-only}
 use borrow.Author.Needs.{needs}
 use Rattle.quiet.proofs.keys.has_no_multi_line_key.Statement.{statement}
@@ -46,7 +47,7 @@ is-multi-line-key-requires : tie.Need-is-multi-line-key-requires
 is-multi-line-key-requires c κs = search needs
 
 returns-3 : tie.Need-returns-3
-returns-3 c = multi-line-loud ((c .before .before .before .before .before .before .before .args) .events .now) ((c .before .before .before .before .before .before .before .args) .answer .events) (length ((c .before .before .before .before .before .before .before .args) .events .now) / 4) ((c .before .before .before .before .before .if1) .left) (sym ((c .before .is-multi-line-key) .ensures) ∙ (c .if3) .taken)
+returns-3 c = multi-line-loud ((c .before .before .before .before .before .before .before .args) .events .now) ((c .before .before .before .before .before .before .before .args) .answer .events) (length ((c .before .before .before .before .before .before .before .args) .events .now) / eventSize) ((c .before .before .before .before .before .if1) .left) (sym ((c .before .is-multi-line-key) .ensures) ∙ (c .if3) .taken)
 
 none-multi-line-requires-3 : tie.Need-none-multi-line-requires-3
 none-multi-line-requires-3 c κs = search needs

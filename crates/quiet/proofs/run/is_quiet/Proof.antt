@@ -4,6 +4,7 @@ use native.Mathlib.Omega.{arith}
 use mathlib.Core.Path.{_≡_}
 use Prim.Native.Nat.{_+_, _/_}
 use lib.ListN.{length}
+use Rattle.rules.specs.Answer.{eventSize}
 use Rattle.quiet.proofs.RunLaws.{quiet-by-events, refused-loud, errors-loud, beyond-loud, start-zero-loud, start-only}
 use borrow.Author.Needs.{needs}
 use Rattle.quiet.proofs.run.is_quiet.Statement.{statement}
@@ -25,7 +26,7 @@ add-if4 : tie.Need-add-if4
 add-if4 c = search needs
 
 returns-4 : tie.Need-returns-4
-returns-4 c = beyond-loud ((c .before .before .before .before .before .args) .answer) ((c .before .before .before .before .before .args) .events .now) ((length ((c .before .before .before .before .before .args) .events .now) / 4) + 1) ((c .if4) .taken) (omega arith)
+returns-4 c = beyond-loud ((c .before .before .before .before .before .args) .answer) ((c .before .before .before .before .before .args) .events .now) ((length ((c .before .before .before .before .before .args) .events .now) / eventSize) + 1) ((c .if4) .taken) (omega arith)
 
 mul-start : tie.Need-mul-start
 mul-start c = search needs
@@ -34,7 +35,7 @@ add-start : tie.Need-add-start
 add-start c = search needs
 
 returns-5 : tie.Need-returns-5
-returns-5 c = beyond-loud ((c .before .before .before .before .before .before .args) .answer) ((c .before .before .before .before .before .before .args) .events .now) (length ((c .before .before .before .before .before .before .args) .events .now) / 4) ((c .before .before .if3) .left) ((c .if5) .taken)
+returns-5 c = beyond-loud ((c .before .before .before .before .before .before .args) .answer) ((c .before .before .before .before .before .before .args) .events .now) (length ((c .before .before .before .before .before .before .args) .events .now) / eventSize) ((c .before .before .if3) .left) ((c .if5) .taken)
 
 mul-if6 : tie.Need-mul-if6
 mul-if6 c = search needs
@@ -50,7 +51,7 @@ none-empty-requires-2 c κs = search needs
 
 returns-7 : tie.Need-returns-7
 returns-7 c =
-    let n : (c .before .before .before .before .before .before .before .before .before .args) .answer .events ≡ (length ((c .before .before .before .before .before .before .before .before .before .args) .events .now) / 4) + 1 = omega (arith, (c .before .before .before .before .before .if3) .left, (c .before .before .before .before .if4) .left) in
+    let n : (c .before .before .before .before .before .before .before .before .before .args) .answer .events ≡ (length ((c .before .before .before .before .before .before .before .before .before .args) .events .now) / eventSize) + 1 = omega (arith, (c .before .before .before .before .before .if3) .left, (c .before .before .before .before .if4) .left) in
     quiet-by-events ((c .before .before .before .before .before .before .before .before .before .args) .answer) ((c .before .before .before .before .before .before .before .before .before .args) .events .now) _ ((c .before .before .before .before .before .before .before .if1) .left) ((c .before .before .before .before .before .before .if2) .left) (start-only ((c .before .before .before .before .before .before .before .before .before .args) .answer) ((c .before .before .before .before .before .before .before .before .before .args) .events .now) _ n ((c .before .if6) .left) ((c .none-empty2) .ensures))
 
 pub is-quiet-spec : {M : Type 1} → statement M
