@@ -2,4 +2,4 @@ pub mod NotBack
 pub mod TurnsLaws
 pub mod TurnsEnough
 pub mod DocumentTurns
-pub mod CountLaws
+pub mod FamilyLaws
