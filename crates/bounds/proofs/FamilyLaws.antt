@@ -6,7 +6,7 @@ use native.Mathlib.Nat.{not-suc-le-zero, le-of-suc-le-suc, le-of-eq}
 use native.Mathlib.Omega.{arith}
 use lib.ListN.{length}
 use Rattle.token.specs.declared.kind.Kind.{Kind}
-use Rattle.token.specs.declared.kind.Kind.the-variants.{Dot, Equals, LeftSquareBracket, LeftCurlyBracket, RightCurlyBracket, Comment, Newline, Atom}
+use Rattle.token.specs.declared.kind.Kind.the-variants.{Dot, Equals, RightCurlyBracket}
 use Rattle.token.specs.Tokens.{Tok, tok}
 use Rattle.rules.specs.declared.array.ArrayState.{ArrayState}
 use Rattle.rules.specs.Out.{Place, span, Item}
@@ -15,7 +15,7 @@ use Rattle.rules.specs.Messages as message
 use Rattle.rules.specs.Words.{eventsOf, errorsOf}
 use Rattle.rules.specs.Turns.{turns}
 use Rattle.rules.specs.Skipping.{ignoreToNewline, wsCommentNewline, leftover, eof}
-use Rattle.rules.specs.Keys.{key, simpleKey}
+use Rattle.rules.specs.Keys.{key}
 use Rattle.rules.specs.Array.{Nest, arrayTurn}
 use Rattle.rules.specs.Nest.{onOpen}
 use Rattle.rules.specs.Value.{value}

@@ -3,3 +3,4 @@ pub mod TurnsLaws
 pub mod TurnsEnough
 pub mod DocumentTurns
 pub mod FamilyLaws
+pub mod AttainedLaws

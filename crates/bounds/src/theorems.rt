@@ -2,9 +2,10 @@
 ghost use mathlib.Core.Path.{_≡_};
 ghost use Prim.Native.Nat.{_+_, _*_, _/_, _≤_};
 ghost use lib.ListN.{length};
+ghost use Rattle.token.specs.Limits.{maxRecords};
 ghost use Rattle.token.specs.Records.{count};
-ghost use Rattle.rules.specs.Words.{eventsOf, errorsOf};
-ghost use Rattle.rules.specs.Entries.{Entry, parse};
+ghost use Rattle.token.specs.Writing.{recordsOf};
+ghost use Rattle.rules.specs.Entries.{Entry};
 ghost use Rattle.rules.specs.Answer.{eventSize, errorSize, outcome};
 ghost use Rattle.bounds.specs.Most.{mostEvents, mostErrors};
 ghost use Rattle.bounds.specs.Families.{eventful, errorful};
@@ -23,13 +24,13 @@ pub fn counts_are_at_most(s: &[u8], base: u32, events: &[u32], errors: &[u32])
         × (outcome entry (now (s .entry)) base (now (events .entry)) (now (errors .entry)) .answer .errors ≤ mostErrors entry (count (now (s .entry))))) ⌝ }
 {}
 
-// No bound is less: for every n, and at every entry, a list of n tokens gives as many events, and one as many errors.
-pub fn most_is_attained(n: u32)
-    ensures { λ _. ⌜ ((entry : Entry)
-        → (length (eventful entry n) ≡ n)
-        × (length (eventsOf (eventful entry n) (parse entry (eventful entry n) .items)) ≡ mostEvents entry n)
-        × (length (errorful entry n) ≡ n)
-        × (length (errorsOf (errorful entry n) (parse entry (errorful entry n) .items)) ≡ mostErrors entry n)) ⌝ }
+// No bound is less: at every entry, for every n within the limit, the records of a list of n tokens give as many events, and those of one as many errors.
+pub fn most_is_attained(n: u32, events: &[u32], errors: &[u32])
+    ensures { λ _. ⌜ ((entry : Entry) → n ≤ maxRecords
+        → ((count (recordsOf (eventful entry n)) ≡ n)
+        × (outcome entry (recordsOf (eventful entry n)) 0 (now (events .entry)) (now (errors .entry)) .answer .events ≡ mostEvents entry n))
+        × ((count (recordsOf (errorful entry n)) ≡ n)
+        × (outcome entry (recordsOf (errorful entry n)) 0 (now (events .entry)) (now (errors .entry)) .answer .errors ≡ mostErrors entry n))) ⌝ }
 {}
 
 // With room for the most events refusal 7 does not come, and with room for the most errors 8 does not.

@@ -1,10 +1,10 @@
--- By FamilyLaws.antt.
-use Rattle.bounds.proofs.FamilyLaws.{eventful-length, eventful-most, errorful-length, errorful-most}
+-- By AttainedLaws.antt.
+use Rattle.bounds.proofs.AttainedLaws.{events-attained, errors-attained}
 use Rattle.bounds.proofs.theorems.most_is_attained.Statement.{statement}
 use Rattle.bounds.proofs.theorems.most_is_attained.Tie as tie
 
 returns : tie.Need-returns
-returns c = λ e. (eventful-length e (c .args .n), eventful-most e (c .args .n), errorful-length e (c .args .n), errorful-most e (c .args .n))
+returns c = λ e few. (events-attained e (c .args .n) (c .args .events .now) (c .args .errors .now) few, errors-attained e (c .args .n) (c .args .events .now) (c .args .errors .now) few)
 
 pub most-is-attained-spec : {M : Type 1} → statement M
 most-is-attained-spec = tie.close (tie.spec returns)
