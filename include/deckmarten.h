@@ -9,7 +9,7 @@
 #include <stdint.h>
 
 /* The version of this header: a million times the major number, a thousand times the minor one, and the patch number. */
-#define DECKMARTEN_VERSION 7000
+#define DECKMARTEN_VERSION 8000
 
 #ifdef __cplusplus
 extern "C" {
@@ -38,9 +38,12 @@ enum deckmarten_size {
 /* Records that are enough for a text of so many bytes, and the bytes of so many records. */
 #define DECKMARTEN_TEXT_RECORDS(bytes) ((size_t)(bytes) + 1)
 #define DECKMARTEN_RECORD_BYTES(records) ((size_t)DECKMARTEN_SIZE_RECORD * (records))
-/* Words that are enough for the events and the errors of so many records. */
+/* Words that are enough for the events and the errors of so many records, at any entry, and of a text of so many bytes. It is proved that with
+ * these sizes, and with the bytes above for the records of a text, there is always room. */
 #define DECKMARTEN_EVENT_WORDS(records) ((size_t)DECKMARTEN_SIZE_EVENT * 3 * (records))
 #define DECKMARTEN_ERROR_WORDS(records) ((size_t)DECKMARTEN_SIZE_ERROR * (2 * (size_t)(records) + 1))
+#define DECKMARTEN_TEXT_EVENT_WORDS(bytes) DECKMARTEN_EVENT_WORDS(DECKMARTEN_TEXT_RECORDS(bytes))
+#define DECKMARTEN_TEXT_ERROR_WORDS(bytes) DECKMARTEN_ERROR_WORDS(DECKMARTEN_TEXT_RECORDS(bytes))
 /* Bytes of the index of so many headers. */
 #define DECKMARTEN_INDEX_BYTES(headers) ((size_t)DECKMARTEN_SIZE_ENTRY * (headers))
 

@@ -31,3 +31,13 @@ pub const fn enough_event_words(records: usize) -> usize {
 pub const fn enough_error_words(records: usize) -> usize {
     ERROR_SIZE * (2 * records + 1)
 }
+
+/// Words that are enough for the events of a text of so many bytes.
+pub const fn enough_text_event_words(text_bytes: usize) -> usize {
+    enough_event_words(enough_records(text_bytes))
+}
+
+/// Words that are enough for the errors of a text of so many bytes.
+pub const fn enough_text_error_words(text_bytes: usize) -> usize {
+    enough_error_words(enough_records(text_bytes))
+}

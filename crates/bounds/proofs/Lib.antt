@@ -2,4 +2,5 @@ pub mod NotBack
 pub mod TurnsLaws
 pub mod TurnsEnough
 pub mod DocumentTurns
-pub mod CountLaws
+pub mod FamilyLaws
+pub mod AttainedLaws

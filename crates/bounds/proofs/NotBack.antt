@@ -22,7 +22,7 @@ use Rattle.rules.specs.KeyCosts.{opt-dot-keys-costs}
 use Rattle.bounds.specs.LineCosts.{ignore-to-newline-costs, on-comment-costs, ignore-to-value-close-costs}
 use Rattle.bounds.specs.ScalarCosts.{on-scalar-costs}
 use Rattle.bounds.specs.NestCosts.{dotted-costs, on-open-costs}
-use Rattle.bounds.specs.Bounds.{on-table-costs, key-val-sep-costs, expression-costs}
+use Rattle.bounds.specs.ExpressionCosts.{on-table-costs, key-val-sep-costs, expression-costs}
 
 -- at most so many tokens are left
 abbrev pub Short : Out → ℕ → Type 0

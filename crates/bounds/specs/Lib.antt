@@ -1,4 +1,14 @@
+pub mod Most
+pub mod Families
 pub mod LineCosts
 pub mod ScalarCosts
+pub mod LineRates
+pub mod KeyRates
+pub mod ArrayCosts
 pub mod NestCosts
+pub mod ExpressionCosts
+pub mod ValueRates
+pub mod DocumentRates
+pub mod EntryRates
 pub mod Bounds
+pub mod CountLaws

@@ -1,6 +1,6 @@
 -- The costs of skipping and of line ends. Proved; nothing here needs to be believed.
 use mathlib.Core.List.{List, [], _∷_}
-use Prim.Native.Nat.{ℕ, zero, suc, _+_, _*_, _≤_}
+use Prim.Native.Nat.{ℕ, zero, suc, _≤_}
 use native.Mathlib.Omega.{arith}
 use lib.ListN.{length}
 use Rattle.token.specs.declared.kind.Kind.{Kind}
@@ -10,7 +10,7 @@ use Rattle.rules.specs.declared.skipping.InClose.{InClose}
 use Rattle.rules.specs.declared.skipping.Bracket.{Bracket}
 use Rattle.rules.specs.declared.skipping.Opened.{Opened}
 use Rattle.rules.specs.Out.{Out, _then_}
-use Rattle.rules.specs.Costs.{eventCount, errorCount, Costs, done-costs, then-costs, looping-costs}
+use Rattle.rules.specs.Costs.{eventCount, Costs, done-costs, then-costs, looping-costs}
 use Rattle.rules.specs.Skipping.{inLine, inClose, ignored, behindComment, ignoreToNewline, afterComment, onComment, closeSquare, closeCurly, fewer, opened, valueCloseStep, valueCloseTurn, ignoreToValueClose, endingStep, ending, wsCommentNewline, leftoverStep, leftover, eofStep, eof}
 
 module _ (k : Kind) (a b : ℕ) (ts : List Tok) where
@@ -89,9 +89,8 @@ ws-comment-newline-costs [] = done-costs [] 0 0
 ws-comment-newline-costs (tok k a b ∷ ts) = ending-costs (tok k a b ∷ ts) a
 
 -- what is left at the end: an event a token at most
-pub record Ends (ts : List Tok) (o : Out) : Type 0 where
-  pub events : eventCount (o .items) ≤ length ts
-  pub errors : errorCount (o .items) + 2 * length (o .rest) ≤ 2 * length ts
+abbrev Ends : List Tok → Out → Type 0
+Ends ts o = eventCount (o .items) ≤ length ts
 
 module _ (k : Kind) (a b : ℕ) (ts : List Tok) where
   leftover-step-ends : (l : InLine) (on : Out) → Ends ts on → Ends (tok k a b ∷ ts) (leftoverStep l a b on)

@@ -9,19 +9,22 @@ use native.Mathlib.Nat.{le-trans}
 use native.Mathlib.Omega.{arith}
 use lib.ListN.{length, drop}
 use lib.Dec.{ltb}
-use borrow.Author.Tests.{ltb-false, le-ltb}
+use borrow.Author.Tests.{ltb-false}
 use Rattle.token.specs.declared.checked.Checked.{Checked}
 use Rattle.token.specs.Spans.{spanAfter}
 use Rattle.token.specs.Tokens.{Tok, allTokens}
 use Rattle.token.specs.Check.{checked}
 use Rattle.token.specs.Laid.{Laid}
+use Rattle.token.specs.Records.{count}
+use Rattle.token.specs.CursorLaws.{all-length}
 use Rattle.token.specs.CheckLaws.{checked-passes, passed-laid}
 use Rattle.rules.specs.Limits.{maxDepth}
 use Rattle.rules.specs.Out.{Item, event, eventAfter, report, stop}
 use Rattle.rules.specs.Entries.{parseDocument, documentEntry}
-use Rattle.rules.specs.Words.{lookedUp, eventWords, eventsOf, errorsOf, Halt, ended, refusedLevel, haltOf}
+use Rattle.rules.specs.Words.{lookedUp, eventWords, eventsOf, errorsOf, haltOf}
 use Rattle.rules.specs.Answer.{eventSize, errorSize, joined, Outcome, refusalBy, walked}
-use Rattle.bounds.specs.Bounds.{event-bound}
+use Rattle.bounds.specs.Bounds.{three-events}
+use Rattle.bounds.specs.CountLaws.{room-events}
 use Rattle.fitting.specs.Quiet.{Quiet, QuietRun}
 use Rattle.fitting.specs.Grammar.{Parts, AnyKind, FitsBy}
 use Rattle.fitting.specs.Premises.{NestedWithin, Regular, Ready, textEnd, eventsIn, documentRun, eventsLeft, EndToEnd, Nests, SameButForCuts}
@@ -38,12 +41,6 @@ events-back all (event g a b ∷ is) others = ap (λ ws. eventWords g (record { 
 events-back all (eventAfter g l ∷ is) others = ap (λ ws. eventWords g (spanAfter (lookedUp all l)) ∷ ws) (events-back all is others)
 events-back all (report m x c u ∷ is) others = events-back all is others
 events-back all (stop n ∷ is) others = refl
-
--- 7 comes only if the events do not fit
-not-seven : (h : Halt) (shortErrors : Bool) → refusalBy h false shortErrors ≡ 7 → ⊥
-not-seven ended true e = omega (arith, e)
-not-seven ended false e = omega (arith, e)
-not-seven (refusedLevel n) shortErrors e = omega (arith, e)
 
 module _ (s : List ℕ) (base : ℕ) (events errors : List ℕ) where
   abbrev tokens : List Tok
@@ -107,9 +104,7 @@ module _ (s : List ℕ) (base : ℕ) (events errors : List ℕ) where
 
   -- room for three times as many is enough for any list
   pub roomy-ready : checked s base ≡ Checked.Passed → Regular tokens → 3 * length tokens ≤ length events / eventSize → Ready s base events errors
-  roomy-ready p g h =
-      let short = le-ltb (length events / eventSize) (length (eventsOf tokens items)) (le-trans (event-bound documentEntry tokens tokens) h) in
-      record { passed = p; regular = g; room = λ e. not-seven (haltOf items) _ (sym (refusal-passed p ∙ ap (λ x. refusalBy (haltOf items) x (ltb (length errors / errorSize) (length (errorsOf tokens items)))) short) ∙ e) }
+  roomy-ready p g h = record { passed = p; regular = g; room = room-events documentEntry s base events errors (omega (arith, h, three-events documentEntry (count s), all-length s base)) }
 
   -- the events in its buffer lie end to end, from the base to the end of the text
   pub outcome-ends : Regular tokens → QuietRun (documentRun s base events errors) → EndToEnd base (eventsLeft (documentRun s base events errors)) (textEnd base tokens)

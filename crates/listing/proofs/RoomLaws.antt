@@ -1,22 +1,27 @@
 -- An answer that is no refusal has counts within the room, so each counted entry stands whole in its buffer, and each event there has
--- the number of an event kind. Assumes nothing.
+-- the number of an event kind. The events of 512 records always fit. Assumes nothing.
 use mathlib.Core.Path.{_≡_, refl, sym, subst}
 use mathlib.Core.Bool.{Bool, true, false}
 use mathlib.Core.List.{List, [], _∷_}
 use Prim.Native.Nat.{ℕ, zero, suc, _+_, _*_, _/_, _≤_, _<_}
+use native.Mathlib.Nat.{le-trans}
 use native.Mathlib.Omega.{arith}
 use lib.ListN.{length, getD}
 use lib.Dec.{ltb}
 use borrow.Author.Tests.{ltb-false}
 use Rattle.token.specs.declared.checked.Checked.{Checked}
+use Rattle.token.specs.Records.{count}
 use Rattle.token.specs.Tokens.{Tok, allTokens}
 use Rattle.token.specs.Check.{checked}
 use Rattle.rules.specs.declared.answer.Answer.{Answer}
 use Rattle.rules.specs.declared.event.Event.{Event}
 use Rattle.rules.specs.Out.{Item, event, eventAfter, report, stop}
 use Rattle.rules.specs.Words.{eventNumber, eventsOf, errorsOf, Halt, ended, refusedLevel, haltOf}
-use Rattle.rules.specs.Entries.{Entry, parse}
+use Rattle.rules.specs.Entries.{Entry, documentEntry, parse}
 use Rattle.rules.specs.Answer.{eventSize, errorSize, Outcome, filled, refusalBy, walked, outcomeBy, outcome}
+use Rattle.bounds.specs.Most.{mostEvents}
+use Rattle.bounds.specs.Bounds.{more-events}
+use Rattle.bounds.specs.CountLaws.{room-events}
 use Rattle.entries.specs.Answers.{Answers}
 use Rattle.rules.proofs.BufferLaws.{word-in}
 use Rattle.rules.proofs.OutcomeLaws.{events-sized}
@@ -88,3 +93,10 @@ pub within : (entry : Entry) (s : List ℕ) (base : ℕ) (events errors a b : Li
 within entry s base events errors a b r e l m q =
     let f = subst (Fits (length events / eventSize) (length errors / errorSize)) (sym e) (outcome-fits entry s base events errors) q in
     (omega (arith, f .0, l), omega (arith, f .1, m), f .2)
+
+-- 512 records have at most 1,533 events, so with room for 1,600 refusal 7 does not come
+pub never-seven : (s : List ℕ) (base : ℕ) (events errors a b : List ℕ) (r : Answer) → Answers documentEntry s base events errors a b r → length s ≤ 3072 → length events ≡ 6400 → r .refusal ≡ 7 → ⊥
+never-seven s base events errors a b r e short room =
+    let few : count s ≤ 512 = omega (arith, short) in
+    let most : mostEvents documentEntry 512 ≤ length events / eventSize = omega (arith, room) in
+    subst (λ (o : Outcome). o .answer .refusal ≡ 7 → ⊥) (sym e) (room-events documentEntry s base events errors (le-trans (more-events (count s) 512 few) most))

@@ -11,17 +11,21 @@ use crate::printing::print_refusal;
 use entries::entries::parse_document;
 use rules::answer::ERROR_WORDS;
 use rules::answer::EVENT_WORDS;
+ghost use Prim.Native.Nat.{_≤_};
+ghost use lib.ListN.{length};
 
 // The most bytes that are listed: 512 records.
 const MOST: usize = 3072;
 
-// Room for 1,600 events and for 512 errors.
+// Room for 1,600 events and for 512 errors. So many records have at most 1,533 events, so these always fit; the errors may not.
 const EVENT_ROOM: usize = 1600 * EVENT_WORDS;
 
 const ERROR_ROOM: usize = 512 * ERROR_WORDS;
 
 // Lists the records s.
-fn list(s: &[u8]) {
+fn list(s: &[u8])
+    requires { ⌜ length (now s) ≤ 3072 ⌝ }
+{
     let mut events = [0u32; EVENT_ROOM];
     let mut errors = [0u32; ERROR_ROOM];
     let answer = parse_document(s, 0, &mut events, &mut errors);

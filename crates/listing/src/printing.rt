@@ -2,6 +2,7 @@
 use crate::naming::print_name;
 use rules::answer::ERROR_WORDS;
 use rules::answer::EVENT_WORDS;
+ghost use mathlib.Core.Path.{_≡_};
 ghost use Prim.Native.Nat.{_+_, _*_, _≤_};
 ghost use lib.ListN.{getD, length};
 ghost use Rattle.rules.specs.Answer.{errorSize, eventSize};
@@ -13,7 +14,10 @@ fn print_number(n: u32) {
     io::print_decimal(1, n as u64);
 }
 
-pub fn print_refusal(refusal: u32, place: usize) {
+// Refusal 7, no room for the events, never comes here.
+pub fn print_refusal(refusal: u32, place: usize)
+    requires { ⌜ (refusal ≡ 7 → ⊥) ⌝ }
+{
     io::write_all(1, b"refused ");
     io::print_decimal(1, refusal as u64);
     io::write_all(1, b" place ");

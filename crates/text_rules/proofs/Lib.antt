@@ -1,2 +1,3 @@
 pub mod TextTheorems
 pub mod TextsRead
+pub mod TextBounds

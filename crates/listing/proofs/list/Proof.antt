@@ -1,7 +1,8 @@
 -- The counts are within the room, by the entry's contract, and a buffer is as long after it as before.
 -- Made by ./proofs from Proof.tmpl: change that.
 use native.Mathlib.Omega.{arith}
-use Rattle.listing.proofs.RoomLaws.{within}
+use mathlib.Core.Path.{refl}
+use Rattle.listing.proofs.RoomLaws.{within, never-seven}
 use borrow.Author.Needs.{needs}
 use Rattle.listing.proofs.list.Statement.{statement}
 use Rattle.listing.proofs.list.Tie as tie
@@ -16,7 +17,7 @@ parse-document-requires : tie.Need-parse-document-requires
 parse-document-requires c κs = search needs
 
 print-refusal-requires : tie.Need-print-refusal-requires
-print-refusal-requires c κs = search needs
+print-refusal-requires c κs = never-seven _ _ _ _ _ _ _ ((c .before .before .before .parse-document) .ensures) (c .before .before .before .before .before .before .before .pre) refl
 
 returns : tie.Need-returns
 returns c = search needs

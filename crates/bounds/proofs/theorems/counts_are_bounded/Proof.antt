@@ -1,5 +1,5 @@
 -- By CountLaws.antt.
-use Rattle.bounds.proofs.CountLaws.{counts-within}
+use Rattle.bounds.specs.CountLaws.{counts-within}
 use Rattle.bounds.proofs.theorems.counts_are_bounded.Statement.{statement}
 use Rattle.bounds.proofs.theorems.counts_are_bounded.Tie as tie
 
