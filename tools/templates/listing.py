@@ -1,5 +1,6 @@
 """Shows what is known at each need, and begins a template."""
 import os
+import re
 
 import filling
 from template import unnumbered
@@ -12,7 +13,7 @@ def short_name(walk, need):
     kind, alike = unnumbered(need), [other for other in walk.places.needs if unnumbered(other) == unnumbered(need)]
     if len(alike) == 1:
         return need[len('Need-'):]
-    marks = [(at, name) for at, names in enumerate(walk.landmarks(need)) for name in names if '=' not in name and '::' not in name]
+    marks = [(at, name) for at, names in enumerate(walk.landmarks(need)) for name in names if re.fullmatch(r'(?:\w+:)?[\w<>=!+*/%-]+', name)]
     late = sorted(marks, key=lambda mark: (not mark[1][0].isupper(), -mark[0]))
     choices = [[name] for _, name in late] + [[one, two] for a, one in late for b, two in late if a < b]
     for places in choices:

@@ -62,7 +62,7 @@ class Template:
             self.begin(line)
 
     def begin(self, line):
-        answer = re.match(r'([^\s=][^=]*?)( c κs| c) =(.*)$', line)
+        answer = re.match(r'(\S+(?:, \S+)*)( c κs| c) =(.*)$', line)
         loop = re.match(r'(\S*(?:Inv|μ)-\S+)((?: [^\s=]+)*) =(.*)$', line)
         if re.match(r'(?:abbrev |pub |unfoldable |data |record )*\S+ :', line):
             self.open = [line]

@@ -8,6 +8,8 @@ import source
 
 ARM = re.compile(r'At-match(\d*)-(keys\d+|rest)')
 BRANCH = re.compile(r'(Then|Else)(\d+)')
+# A piece of a condition with signs in it, as kind<8.
+SIGNED = re.compile(r'\w+(?:[<>=!+*/%-]+\w+)+')
 
 
 def unnumbered(name):
@@ -70,7 +72,7 @@ class Ways:
         branch = BRANCH.fullmatch(place)
         if branch:
             side, test = {'Then': 'if:', 'Else': 'else:'}[branch[1]], self.conditions.get(int(branch[2]), '')
-            return [side + piece for piece in re.findall(r'[A-Za-z_]\w*', test) + [test]]
+            return [side + piece for piece in re.findall(r'[A-Za-z_]\w*', test) + SIGNED.findall(test) + [test]]
         loop = re.fullmatch(r'(At|After)-(\S+)', place)
         if loop and loop[2] in self.places.loops:
             return [loop[2] if loop[1] == 'At' else 'behind:' + loop[2]]
