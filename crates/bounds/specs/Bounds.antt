@@ -46,7 +46,7 @@ pub error-bound : (e : Entry) (ts all : List Tok) → length (errorsOf all (pars
 error-bound e ts all = omega (arith, most-errors e ts all, two-errors e (length ts))
 
 -- so no count of an accepted list comes near the bound at which the code's counts stop
-pub counts-fit : (e : Entry) (ts all : List Tok) → length ts ≤ maxRecords → (length (eventsOf all (parse e ts .items)) ≤ 4294967295) × (length (errorsOf all (parse e ts .items)) ≤ 4294967295)
+pub counts-fit : (e : Entry) (ts all : List Tok) → length ts ≤ maxRecords → (length (eventsOf all (parse e ts .items)) ≤ 2147483647) × (length (errorsOf all (parse e ts .items)) ≤ 2147483647)
 counts-fit e ts all h = (omega (arith, event-bound e ts all), omega (arith, error-bound e ts all))
 
 -- a longer document can give more

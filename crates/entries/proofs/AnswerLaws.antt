@@ -60,7 +60,7 @@ abbrev pub refusedOutcome : ℕ → List ℕ → List ℕ → Counts → Outcome
 refusedOutcome place a b n = record { answer = record { refusal = 6; place = place; events = n .events; errors = n .errors }; events = a; errors = b }
 
 -- any items whose lists are no longer than the counts can be
-module _ (all : List Tok) (is : List Item) (evs ers : List ℕ) (h : length (eventsOf all is) ≤ 4294967295) (k : length (errorsOf all is) ≤ 4294967295) where
+module _ (all : List Tok) (is : List Item) (evs ers : List ℕ) (h : length (eventsOf all is) ≤ 2147483647) (k : length (errorsOf all is) ≤ 2147483647) where
   pub walked-from : (o : Bufs) → o ≡ pour all is (bufs evs ers fresh) → walked all is evs ers ≡ outcomeFrom all evs ers (numberedBufs all o)
   unfolding walked
   walked-from o e = ap (outcomeFrom all evs ers) (sym (ap (numberedBufs all) e ∙ poured all is evs ers h k))
@@ -78,7 +78,7 @@ module _ (entry : Entry) (s : List ℕ) (base : ℕ) (evs ers : List ℕ) (p : c
   few : length (allTokens s base) ≤ maxRecords
   few = omega (arith, all-length s base, checked-passes s base p .few)
 
-  fits : (length (eventsOf (allTokens s base) (parse entry (allTokens s base) .items)) ≤ 4294967295) × (length (errorsOf (allTokens s base) (parse entry (allTokens s base) .items)) ≤ 4294967295)
+  fits : (length (eventsOf (allTokens s base) (parse entry (allTokens s base) .items)) ≤ 2147483647) × (length (errorsOf (allTokens s base) (parse entry (allTokens s base) .items)) ≤ 2147483647)
   fits = counts-fit entry (allTokens s base) (allTokens s base) few
 
   passed-outcome : outcome entry s base evs ers ≡ walked (allTokens s base) (parse entry (allTokens s base) .items) evs ers

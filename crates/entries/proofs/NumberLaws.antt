@@ -103,10 +103,10 @@ module _ (all : List Tok) (es : List (List ℕ)) (l left : List ℕ) (a b c d e 
   by-room true r = fits (ltb-true _ _ r)
   by-room false r = left-out (ltb-false _ _ r)
 
-  pub put-error-more : length es < 4294967295 → numbered all (more (length es)) (putError left (length es) a b c d e f) ≡ filled errorSize (es ++ (words ∷ [])) l
+  pub put-error-more : length es < 2147483647 → numbered all (more (length es)) (putError left (length es) a b c d e f) ≡ filled errorSize (es ++ (words ∷ [])) l
   unfolding putError more
   put-error-more h =
       let next : length es + 1 ≡ suc (length es) = omega arith in
-      ap (λ (t : Bool). numbered all (cond t (length es + 1) (length es)) (putError left (length es) a b c d e f)) (lt-ltb (length es) 4294967295 h)
+      ap (λ (t : Bool). numbered all (cond t (length es + 1) (length es)) (putError left (length es) a b c d e f)) (lt-ltb (length es) 2147483647 h)
       ∙ ap (λ (n : ℕ). numbered all n (putError left (length es) a b c d e f)) next
       ∙ by-room (ltb (length es) (length left / errorSize)) refl

@@ -25,9 +25,9 @@ unfolding putEvent
 put-event-more es l a b c d z = simp towards-suc (stored eventSize es (a ∷ b ∷ c ∷ d ∷ []) l z refl)
 
 -- one more, below the bound
-counted : (es : List (List ℕ)) (w : List ℕ) → length es < 4294967295 → more (length es) ≡ length (es ++ (w ∷ []))
+counted : (es : List (List ℕ)) (w : List ℕ) → length es < 2147483647 → more (length es) ≡ length (es ++ (w ∷ []))
 unfolding more
-counted es w h = rw (lt-ltb (length es) 4294967295 h) (sym (length-append es (w ∷ [])))
+counted es w h = rw (lt-ltb (length es) 2147483647 h) (sym (length-append es (w ∷ [])))
 
 -- the buffers and counts after the events es and the errors rs
 abbrev pub bufsAfter : List ℕ → List ℕ → List (List ℕ) → List (List ℕ) → Halt → Bufs
@@ -42,12 +42,12 @@ module _ (all : List Tok) (evs ers : List ℕ) (es rs : List (List ℕ)) (o : Bu
   on : o .halt ≡ ended
   on = ap (λ (z : Bufs). z .halt) q
 
-  one-event : (g : Event) (p : Span) → Sized eventSize es → length es < 4294967295 → numberedBufs all (withEvent g p o) ≡ bufsAfter evs ers (es ++ (eventWords g p ∷ [])) rs ended
+  one-event : (g : Event) (p : Span) → Sized eventSize es → length es < 2147483647 → numberedBufs all (withEvent g p o) ≡ bufsAfter evs ers (es ++ (eventWords g p ∷ [])) rs ended
   one-event g p z h =
       ap (withEvent g p) q
       ∙ ap₂ (λ (x : List ℕ) (n : ℕ). record { events = x; errors = filled errorSize rs ers; n = record { events = n; errors = length rs }; halt = ended }) (put-event-more es evs _ _ _ _ z) (counted es (eventWords g p) h)
 
-  one-error : (m x : ℕ) (c u : Span) → Sized errorSize rs → length rs < 4294967295 → numberedBufs all (withError m x c u o) ≡ bufsAfter evs ers es (rs ++ (errorWords all m x c u ∷ [])) ended
+  one-error : (m x : ℕ) (c u : Span) → Sized errorSize rs → length rs < 2147483647 → numberedBufs all (withError m x c u o) ≡ bufsAfter evs ers es (rs ++ (errorWords all m x c u ∷ [])) ended
   one-error m x c u z h =
       let k : o .n .errors ≡ length rs = ap (λ (y : Bufs). y .n .errors) q in
       let left : numbered all (length rs) (o .errors) ≡ filled errorSize rs ers = ap (λ (j : ℕ). numbered all j (o .errors)) (sym k) ∙ ap (λ (y : Bufs). y .errors) q in
@@ -72,7 +72,7 @@ poured-none all (i ∷ is) o k e = ap (pour all is) (put-none (o .halt) k all i 
 
 -- the items after es and rs
 poured-from : (all : List Tok) (is : List Item) (evs ers : List ℕ) (es rs : List (List ℕ)) → Sized eventSize es → Sized errorSize rs
-    → length es + length (eventsOf all is) ≤ 4294967295 → length rs + length (errorsOf all is) ≤ 4294967295
+    → length es + length (eventsOf all is) ≤ 2147483647 → length rs + length (errorsOf all is) ≤ 2147483647
     → (o : Bufs) → numberedBufs all o ≡ bufsAfter evs ers es rs ended
     → numberedBufs all (pour all is o) ≡ bufsAfter evs ers (es ++ eventsOf all is) (rs ++ errorsOf all is) (haltOf is)
 poured-from all [] evs ers es rs y z h k o q = q ∙ ap₂ (λ (a b : List (List ℕ)). bufsAfter evs ers a b ended) (sym (append-nil es)) (sym (append-nil rs))
@@ -100,7 +100,7 @@ unfolding numberedFirst
 numbered-none all l = rw (le-ltb (length l / errorSize) 0 (omega arith))
 
 -- all items of a run, onto fresh counts
-pub poured : (all : List Tok) (is : List Item) (evs ers : List ℕ) → length (eventsOf all is) ≤ 4294967295 → length (errorsOf all is) ≤ 4294967295
+pub poured : (all : List Tok) (is : List Item) (evs ers : List ℕ) → length (eventsOf all is) ≤ 2147483647 → length (errorsOf all is) ≤ 2147483647
     → numberedBufs all (pour all is (bufs evs ers (record { events = 0; errors = 0 }))) ≡ bufsAfter evs ers (eventsOf all is) (errorsOf all is) (haltOf is)
 unfolding bufs
 poured all is evs ers h k =

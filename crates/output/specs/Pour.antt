@@ -22,7 +22,7 @@ putError l i a b c d e f = cond (ltb i (length l / errorSize)) (set (set (set (s
 
 -- one more, up to a bound that no list of the rules reaches
 unfoldable pub more : ℕ → ℕ
-more n = cond (ltb n 4294967295) (n + 1) n
+more n = cond (ltb n 2147483647) (n + 1) n
 
 -- the two buffers, their counts, and whether the walk goes on
 pub record Bufs : Type 0 where

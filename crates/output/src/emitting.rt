@@ -32,7 +32,7 @@ pub struct Walk {
 fn one_more(i: usize) -> usize
     ensures { λ r. ⌜ r ≡ more i ⌝ }
 {
-    if i < 4294967295 { i + 1 } else { i }
+    if i < 2147483647 { i + 1 } else { i }
 }
 
 fn put_event(events: &mut [u32], i: usize, kind: u32, encoding: u32, start: u32, end: u32)
