@@ -6,9 +6,11 @@ import generated
 
 MADE = '-- Made by ./proofs from Proof.tmpl: change that.'
 SEARCH = 'use borrow.Author.Needs.{needs}'
-# What a template names: `λ w@CASE.`, `w:NAME`, or @NAME, @@NAME, @NAME:KIND, @NAME#; the last two also with .kept-BUFFER.
+# A place: a name, or a piece of a condition with signs and characters in it.
+PLACE = r"(?:[\w·<>=!+*/%-]|,(?=[\w'])|'(?:\\.|[^\\'\s])')+"
+# What a template names: `λ w@CASE.`, `w:NAME`, or @NAME, @@NAME, @NAME:KIND, @NAME#, @LOOP#-test; all but the first two also with .kept-BUFFER.
 NAMED = re.compile(r'(?:λ (?P<bound>\w+)@(?P<case>[\w:<>=!+*/%-]+)\.|(?<![\w@:])(?P<way>\w+):(?P<part>[\w·-]+)'
-                   r'|(?P<marks>@@?)(?P<name>[\w·-]+)(?::(?P<kind>(?:\w+::?)?[\w·<>=!+*/%-]+))?(?P<near>#?))(?:\.kept-(?P<kept>[\w·-]+))?')
+                   r'|(?P<marks>@@?)(?P<name>[\w·-]+)(?::(?P<kind>(?:\w+::?)?' + PLACE + r'))?(?P<near>#(?:-test)?|))(?:\.kept-(?P<kept>[\w·-]+))?')
 
 
 class Part:

@@ -43,6 +43,12 @@ def ways_together(text):
     return [way for group in groups for way in ways_together(group)]
 
 
+def piece(step):
+    """What a step takes a piece of, and the variable that it gives the piece to, by number; nothing if it takes none."""
+    found = re.match(r'\s*Reshare\.k-sl-reshare\S*\s.*?\sT\d+\s+(\d+)\s+(\d+)\s', step, re.S) or re.search(r'Relend\.CountIs\s+T\d+\s+(\d+)\s+(\d+)\s', step)
+    return (int(found[1]), int(found[2])) if found else (None, None)
+
+
 class Places:
     """The places of a walk. Each is a record: what is known there for the first time, and the place before it."""
 
@@ -50,7 +56,7 @@ class Places:
         with open(path, encoding='utf-8') as file:
             head, _, tail = file.read().partition('pub record Start : ')
         self.before, self.fields, self.own, self.needs, self.asked, self.order = {}, {}, {}, {}, {}, []
-        self.uses = uses(head)
+        self.uses, self.steps = uses(head), dict(re.findall(r'^ *abbrev (s\d+) : [^=]*?\n *\1 =\s(.*?)\n\n', head, re.M | re.S))
         self.loops = re.findall(r'^abbrev pub InvT-(\S+) :', head, re.M)
         for paragraph in ('pub record Start : ' + tail).split('\n\n'):
             self.read(paragraph)
@@ -82,6 +88,16 @@ class Places:
     def locals_of(self, need):
         """The numbers of the variables that a need speaks of, in order."""
         return [int(number) for number in re.findall(r'Row\.get\s+(\d+)\s', self.asked.get(need, ''))]
+
+    def pieces_of(self, need):
+        """The number of the variable that a need takes a piece of; none if it is about no piece."""
+        text = self.asked.get(need, '')
+        step = re.search(r'\b(s\d+) \.asks', text)
+        lent = {into: of for of, into in map(piece, self.steps.values()) if into}
+        number = piece(self.steps.get(step[1], '') if step else text)[0]
+        while number in lent:
+            number = lent[number]
+        return [number] if number else []
 
 
 def places_of(folder):

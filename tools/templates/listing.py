@@ -4,7 +4,10 @@ import re
 
 import filling
 from template import unnumbered
-from ways import BRANCH
+from ways import BRANCH, SIGNED, WORD
+
+# What may stand behind an @ in a template.
+NAME = re.compile(r'(?:\w+:)?(?:[\w-]+|%s|%s)' % (WORD, SIGNED.pattern))
 
 
 def short_name(walk, need):
@@ -13,7 +16,7 @@ def short_name(walk, need):
     kind, alike = unnumbered(need), [other for other in walk.places.needs if unnumbered(other) == unnumbered(need)]
     if len(alike) == 1:
         return need[len('Need-'):]
-    marks = [(at, name) for at, names in enumerate(walk.landmarks(need)) for name in names if re.fullmatch(r'(?:\w+:)?[\w<>=!+*/%-]+', name)]
+    marks = [(at, name) for at, names in enumerate(walk.landmarks(need)) for name in names if NAME.fullmatch(name)]
     late = sorted(marks, key=lambda mark: (not mark[1][0].isupper(), -mark[0]))
     choices = [[name] for _, name in late] + [[one, two] for a, one in late for b, two in late if a < b]
     for places in choices:

@@ -5,6 +5,8 @@ import os
 import re
 
 CRATES = 'crates'
+# Where the letters of characters are moved to.
+HIDDEN = 0xF0000
 # A contract that says that one item is put into the buffers, and nothing else.
 ONE_ITEM = re.compile(r'ensures \{ λ r\. ⌜ \(\(all : List Tok\) \(\w+ : List ℕ\) → bufs [^≡]* r ≡ put all ')
 
@@ -18,7 +20,7 @@ class Function:
 
     def conditions(self):
         """The condition of each `if`, without blanks, in the order of the text, which is the order the prover counts them in."""
-        return [re.sub(r'\s', '', test) for test in re.findall(r'\bif\b(?!\s+let\b)([^{]*)\{', self.body)]
+        return [shown(re.sub(r'\s', '', test)) for test in re.findall(r'\bif\b(?!\s+let\b)([^{]*)\{', self.body)]
 
     def variables(self):
         """The parameters, then what `let` and arms bind, in the order of the text."""
@@ -31,10 +33,19 @@ class Function:
         return self.parameters + bound
 
 
+def hidden(text):
+    """A text whose letters are no brackets, no blanks and no words. shown takes it back."""
+    return ''.join(chr(HIDDEN + ord(letter)) for letter in text)
+
+
+def shown(text):
+    return ''.join(chr(ord(letter) - HIDDEN) if ord(letter) >= HIDDEN else letter for letter in text)
+
+
 def plain(text):
-    """The text without comments, and with strings and characters emptied, so that brackets can be counted."""
+    """The text without comments, with strings emptied and characters hidden, so that brackets can be counted."""
     text = re.sub(r'//[^\n]*', '', text)
-    return re.sub(r"b?'(?:\\.[^']*|[^\\'\n])'|b?\"(?:\\.|[^\"\\])*\"", "''", text)
+    return re.sub(r"b?'(\\.[^']*|[^\\'\n])'|b?\"(?:\\.|[^\"\\])*\"", lambda m: "'%s'" % hidden(m[1] or ''), text)
 
 
 def closing(text, at):

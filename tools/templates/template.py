@@ -68,7 +68,7 @@ class Template:
             self.open = [line]
             self.definitions.append(self.open)
         elif answer:
-            self.open = Block([name.strip() for name in answer[1].split(',')], answer[2], answer[3], self.unfolding)
+            self.open = Block(answer[1].split(', '), answer[2], answer[3], self.unfolding)
             self.answers.append(self.open)
         elif loop:
             self.open = Block([loop[1]], loop[2], loop[3])

@@ -8,8 +8,10 @@ import source
 
 ARM = re.compile(r'At-match(\d*)-(keys\d+|rest)')
 BRANCH = re.compile(r'(Then|Else)(\d+)')
-# A piece of a condition with signs in it, as kind<8.
-SIGNED = re.compile(r'\w+(?:[<>=!+*/%-]+\w+)+')
+# A piece of a condition with signs in it, as kind<8, b=='[' or at,quote.
+CHARACTER = r"'(?:\\.|[^\\'\s])'"
+WORD = r'(?:\w+|%s)' % CHARACTER
+SIGNED = re.compile(r'%s(?:(?:[<>=!+*/%%-]+|,)%s)+' % (WORD, WORD))
 
 
 def unnumbered(name):
@@ -17,7 +19,8 @@ def unnumbered(name):
 
 
 def is_piece(piece, condition):
-    """Whether a piece of a condition, as levels or kind<8, stands in it between words."""
+    """Whether a piece of a condition, as levels or kind<8, stands in it between words; a piece with no character in it, outside of those."""
+    condition = condition if "'" in piece else re.sub(CHARACTER, "''", condition)
     return re.search(r'(?<!\w)%s(?!\w)' % re.escape(piece), condition) is not None
 
 
@@ -72,7 +75,7 @@ class Ways:
         branch = BRANCH.fullmatch(place)
         if branch:
             side, test = {'Then': 'if:', 'Else': 'else:'}[branch[1]], self.conditions.get(int(branch[2]), '')
-            return [side + piece for piece in re.findall(r'[A-Za-z_]\w*', test) + SIGNED.findall(test) + [test]]
+            return [side + piece for piece in re.findall(r'[A-Za-z_]\w*', re.sub(CHARACTER, '', test)) + SIGNED.findall(test) + [test]]
         loop = re.fullmatch(r'(At|After)-(\S+)', place)
         if loop and loop[2] in self.places.loops:
             return [loop[2] if loop[1] == 'At' else 'behind:' + loop[2]]
@@ -80,11 +83,16 @@ class Ways:
         return [name for name in fields if name in self.callees]
 
     def landmarks(self, need):
-        """The names of the places from the start to a need; of a need about a buffer's length, its parameter too."""
+        """The names of the places from the start to a need; of a need about a buffer, its parameter too."""
         marks = [self.names(place) for place, _ in reversed(self.places.way(need))]
-        if need.startswith('Need-same-length') and self.function:
-            marks.append([self.function.parameters[self.places.locals_of(need)[0] - 1]])
-        return [names for names in marks if names]
+        buffer = self.buffer(need)
+        return [names for names in marks if names] + ([[buffer]] if buffer else [])
+
+    def buffer(self, need):
+        """The parameter whose length a need is about, or which it takes a piece of."""
+        numbers = self.places.locals_of(need) if need.startswith('Need-same-length') else self.places.pieces_of(need)
+        names = self.function.parameters if self.function else []
+        return names[numbers[0] - 1] if numbers and numbers[0] <= len(names) else None
 
     def fits(self, need, wanted):
         """Whether the way to a need has these places, in this order."""
@@ -97,7 +105,7 @@ class Ways:
         way = self.places.way(need)
         if kind and name not in ('if', 'arm'):
             reached = [at for at, (place, _) in enumerate(way) if is_called(kind, self.names(place))]
-            way, name, kind = way[reached[0] + 1:] if reached else [], name + '#', ''
+            way, name, kind = way[reached[0] + 1:] if reached else [], name if '#' in name else name + '#', ''
         for place, step in way:
             fields = self.places.fields.get(place, [])
             if whole and place in (name, 'After-' + name, 'At-' + name):
@@ -118,8 +126,9 @@ class Ways:
             return fields[0] if place.endswith('-came') else None
         if name == 'match-key':
             return fields[0] if self.key(place) else None
-        if name.endswith('#'):
-            return next((field for field in fields if re.fullmatch(re.escape(name[:-1]) + r'\d*', field)), None)
+        if '#' in name:
+            before, behind = name.split('#')
+            return next((field for field in fields if re.fullmatch(re.escape(before) + r'\d*' + behind, field)), None)
         return name if name in fields else None
 
     def tells(self, place, number, enum):

@@ -17,7 +17,7 @@ fn one_if(yes: bool) -> usize
 }
 
 // How many headers the first n events have.
-pub fn count_headers(events: &[u32], n: usize) -> usize
+pub(crate) fn count_headers(events: &[u32], n: usize) -> usize
     requires { ⌜ n * eventSize ≤ length (now events) ⌝ }
     ensures { λ r. ⌜ r ≡ length (headersIn n (now (events .entry))) ⌝ }
 {

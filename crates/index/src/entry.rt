@@ -48,7 +48,7 @@ fn put_mark(index: &mut [u8], at: usize, array: bool)
 }
 
 // Length, kind, place, key parts, array mark, events.
-pub fn put_entry(
+pub(crate) fn put_entry(
     index: &mut [u8],
     at: usize,
     place: usize,

@@ -19,7 +19,7 @@ pub struct IndexState {
 }
 
 // Before the first event.
-pub fn begin() -> IndexState
+pub(crate) fn begin() -> IndexState
     ensures { λ r. ⌜ r ≡ fresh ⌝ }
 {
     IndexState {
@@ -43,7 +43,7 @@ fn more(n: usize) -> usize
 }
 
 // The kind of event i: word 0 of its four.
-pub fn kind_at(events: &[u32], i: usize) -> u32
+pub(crate) fn kind_at(events: &[u32], i: usize) -> u32
     requires { ⌜ i * eventSize < length (now events) ⌝ }
     ensures { λ r. ⌜ r ≡ getD (now (events .entry)) (i * eventSize) 0 ⌝ }
 {
@@ -51,7 +51,7 @@ pub fn kind_at(events: &[u32], i: usize) -> u32
 }
 
 // std_table_open and array_table_open.
-pub fn opens_header(kind: u32) -> bool
+pub(crate) fn opens_header(kind: u32) -> bool
     ensures { λ r. ⌜ r ≡ opensHeader kind ⌝ }
 {
     if kind == 1 {
@@ -121,7 +121,7 @@ fn stepped(state: IndexState, kind: u32) -> IndexState
 }
 
 // The lent state is altered: an event of the kind was met.
-pub fn note(state: &mut IndexState, kind: u32)
+pub(crate) fn note(state: &mut IndexState, kind: u32)
     ensures { λ _. ⌜ now (state .exit) ≡ stateAfter (now (state .entry)) kind ⌝ }
 {
     *state = stepped(*state, kind);

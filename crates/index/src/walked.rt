@@ -42,7 +42,7 @@ fn finish_before(index: &mut [u8], k: usize, state: IndexState, kind: u32) -> us
 }
 
 // The builder is lent to the walk, and altered there with each of the first n events.
-pub fn walk(state: &mut IndexState, events: &[u32], n: usize, index: &mut [u8])
+pub(crate) fn walk(state: &mut IndexState, events: &[u32], n: usize, index: &mut [u8])
     requires { ⌜ Walkable (now state) (now events) n (now index) ⌝ }
     ensures { λ _. ⌜ (now (state .exit) ≡ stateBehind (now (state .entry)) (kindsFrom n 0 (now (events .entry)))) × (now (index .exit) ≡ indexBytes (headersIn n (now (events .entry))) ++ drop (entrySize * length (headersIn n (now (events .entry)))) (now (index .entry))) ⌝ }
 {

@@ -1,14 +1,13 @@
 // From the bytes of a text to its token records.
 pub mod refusals;
 pub mod theorems;
-pub mod writing;
 
 use crate::refusals::NO_ROOM_FOR_TOKENS;
 use crate::refusals::NOT_UTF8;
 use crate::refusals::TEXT_TOO_LONG;
-use crate::writing::write;
 use places::is_at;
 use scan::lexer::process_token;
+use text_records::write;
 use token::checked::MAX_END;
 use utf8::valid_up_to;
 ghost use mathlib.Core.Path.{_≡_};

@@ -3,7 +3,7 @@
 use native.Mathlib.Omega.{arith}
 use Prim.Native.Nat.{_-_}
 use lib.ListN.{length}
-use Rattle.lex.specs.LexLaws.{Counted, counted-begun, counted-on, counted-end}
+use Rattle.text_records.specs.TextRecordLaws.{Counted, counted-begun, counted-on, counted-end}
 use borrow.Author.Needs.{needs}
 use Rattle.lex.proofs.count.Statement.{statement}
 use Rattle.lex.proofs.count.Tie as tie

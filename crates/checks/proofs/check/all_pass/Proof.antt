@@ -5,7 +5,7 @@ use mathlib.Core.Bool.{true, false, false≢true}
 use native.Mathlib.Omega.{arith}
 use lib.Dec.{eqb}
 use borrow.Author.Tests.{eq-eqb, eqb-true}
-use Prim.Native.Nat.{_-_, _<_}
+use Prim.Native.Nat.{ℕ, _-_, _<_}
 use Rattle.token.specs.Records.{count, lengthAt, kindNumberAt}
 use Rattle.token.specs.Check.{recordRefusal, passed}
 use Rattle.token.specs.CheckLaws.{Summed, summed-begun, summed-on, summed-refused, summed-end, from-start}
@@ -45,14 +45,14 @@ loop-less c = search needs
 
 loop-again : tie.Need-loop-again Inv-loop μ-loop
 loop-again c =
-    let e : eqb (recordRefusal (kindNumberAt ((c .before .before .before .before .before .before .before .before .args) .s .now) ((c .before .before .before .before .before .before .loop) .i)) (lengthAt ((c .before .before .before .before .before .before .before .before .args) .s .now) ((c .before .before .before .before .before .before .loop) .i)) 0) 0 ≡ true = cc in
+    let e : eqb (recordRefusal (kindNumberAt ((c .before .before .before .before .before .before .before .before .args) .s .now) ((c .before .before .before .before .before .before .loop) .i)) (lengthAt ((c .before .before .before .before .before .before .before .before .args) .s .now) ((c .before .before .before .before .before .before .loop) .i)) 0) 0 ≡ true = (ap (λ (k : ℕ). eqb (recordRefusal k (lengthAt ((c .before .before .before .before .before .before .before .before .args) .s .now) ((c .before .before .before .before .before .before .loop) .i)) 0) 0) (sym ((c .before .before .before .kind-number-at) .ensures)) ∙ ap (λ (l : ℕ). eqb (recordRefusal ((c .before .before .before .kind-number-at) .result) l 0) 0) (sym ((c .before .before .before .before .length-at) .ensures)) ∙ sym ((c .before .before .record-fits) .ensures)) ∙ (c .before .if1) .taken in
     let w : (c .widened) .result ≡ (lengthAt ((c .before .before .before .before .before .before .before .before .args) .s .now) ((c .before .before .before .before .before .before .loop) .i)) = (c .widened) .ensures .0 ∙ (c .before .before .before .before .length-at) .ensures in
     let b : (lengthAt ((c .before .before .before .before .before .before .before .before .args) .s .now) ((c .before .before .before .before .before .before .loop) .i)) < 4294967296 = omega (arith, w, (c .widened) .ensures .1) in
     rw w (summed-on ((c .before .before .before .before .before .before .loop) .inv) _ ((c .before .before .before .before .before .loop-test) .taken) refl (eqb-true _ _ e) b)
 
 returns : tie.Need-returns Inv-loop μ-loop
 returns c =
-    let e : eqb (recordRefusal (kindNumberAt ((c .before .before .before .before .before .before .before .args) .s .now) ((c .before .before .before .before .before .loop) .i)) (lengthAt ((c .before .before .before .before .before .before .before .args) .s .now) ((c .before .before .before .before .before .loop) .i)) 0) 0 ≡ false = cc in
+    let e : eqb (recordRefusal (kindNumberAt ((c .before .before .before .before .before .before .before .args) .s .now) ((c .before .before .before .before .before .loop) .i)) (lengthAt ((c .before .before .before .before .before .before .before .args) .s .now) ((c .before .before .before .before .before .loop) .i)) 0) 0 ≡ false = (ap (λ (k : ℕ). eqb (recordRefusal k (lengthAt ((c .before .before .before .before .before .before .before .args) .s .now) ((c .before .before .before .before .before .loop) .i)) 0) 0) (sym ((c .before .before .kind-number-at) .ensures)) ∙ ap (λ (l : ℕ). eqb (recordRefusal ((c .before .before .kind-number-at) .result) l 0) 0) (sym ((c .before .before .before .length-at) .ensures)) ∙ sym ((c .before .record-fits) .ensures)) ∙ (c .if1) .left in
     sym (sym (ap passed (from-start ((c .before .before .before .before .before .before .before .args) .s .now) ((c .before .before .before .before .before .before .before .args) .from))) ∙ summed-refused ((c .before .before .before .before .before .loop) .inv) _ ((c .before .before .before .before .loop-test) .taken) refl (λ z. false≢true (sym e ∙ eq-eqb _ _ z)))
 
 returns-2 : tie.Need-returns-2 Inv-loop μ-loop

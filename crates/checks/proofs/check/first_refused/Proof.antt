@@ -1,8 +1,8 @@
 -- The loop goes record by record; what the check still says from here is what it says from the start.
 -- Made by ./proofs from Proof.tmpl: change that.
-use mathlib.Core.Path.{_≡_, refl, sym, _∙_}
+use mathlib.Core.Path.{_≡_, refl, sym, ap, _∙_}
 use native.Mathlib.Omega.{arith}
-use Prim.Native.Nat.{_+_, _-_, _≤_}
+use Prim.Native.Nat.{ℕ, _+_, _-_, _≤_}
 use Rattle.token.specs.Limits.{maxEnd}
 use Rattle.token.specs.Records.{count, lengthAt, kindNumberAt}
 use Rattle.token.specs.Check.{recordRefusal, checkedFrom}
@@ -38,7 +38,7 @@ record-refusal-requires c κs = search needs
 
 returns : tie.Need-returns Inv-loop μ-loop
 returns c =
-    let e : (c .before .record-refusal) .result ≡ recordRefusal (kindNumberAt ((c .before .before .before .before .before .before .before .before .args) .s .now) ((c .before .before .before .before .before .before .loop) .i)) (lengthAt ((c .before .before .before .before .before .before .before .before .args) .s .now) ((c .before .before .before .before .before .before .loop) .i)) ((c .before .before .before .before .before .before .loop) .place + (lengthAt ((c .before .before .before .before .before .before .before .before .args) .s .now) ((c .before .before .before .before .before .before .loop) .i))) = cc in
+    let e : (c .before .record-refusal) .result ≡ recordRefusal (kindNumberAt ((c .before .before .before .before .before .before .before .before .args) .s .now) ((c .before .before .before .before .before .before .loop) .i)) (lengthAt ((c .before .before .before .before .before .before .before .before .args) .s .now) ((c .before .before .before .before .before .before .loop) .i)) ((c .before .before .before .before .before .before .loop) .place + (lengthAt ((c .before .before .before .before .before .before .before .before .args) .s .now) ((c .before .before .before .before .before .before .loop) .i))) = ((c .before .record-refusal) .ensures ∙ ap (λ (k : ℕ). recordRefusal k ((c .before .before .before .before .length-at) .result) ((c .before .before .before .before .before .before .loop) .place + (c .before .before .before .widened) .result)) ((c .before .before .kind-number-at) .ensures) ∙ (ap (λ (l : ℕ). recordRefusal (kindNumberAt ((c .before .before .before .before .before .before .before .before .args) .s .now) ((c .before .before .before .before .before .before .loop) .i)) l ((c .before .before .before .before .before .before .loop) .place + (c .before .before .before .widened) .result)) ((c .before .before .before .before .length-at) .ensures) ∙ ap (λ (w : ℕ). recordRefusal (kindNumberAt ((c .before .before .before .before .before .before .before .before .args) .s .now) ((c .before .before .before .before .before .before .loop) .i)) (lengthAt ((c .before .before .before .before .before .before .before .before .args) .s .now) ((c .before .before .before .before .before .before .loop) .i)) ((c .before .before .before .before .before .before .loop) .place + w)) ((c .before .before .before .widened) .ensures .0 ∙ (c .before .before .before .before .length-at) .ensures))) in
     sym (from-refused _ _ _ _ ((c .before .before .before .before .before .loop-test) .taken) e ((c .if1) .taken)) ∙ (c .before .before .before .before .before .before .loop) .inv .0 ∙ from-start ((c .before .before .before .before .before .before .before .before .args) .s .now) ((c .before .before .before .before .before .before .before .before .args) .from)
 
 add-i : tie.Need-add-i Inv-loop μ-loop
@@ -49,7 +49,7 @@ loop-less c = search needs
 
 loop-again : tie.Need-loop-again Inv-loop μ-loop
 loop-again c =
-    let e : (c .before .record-refusal) .result ≡ recordRefusal (kindNumberAt ((c .before .before .before .before .before .before .before .before .args) .s .now) ((c .before .before .before .before .before .before .loop) .i)) (lengthAt ((c .before .before .before .before .before .before .before .before .args) .s .now) ((c .before .before .before .before .before .before .loop) .i)) ((c .before .before .before .before .before .before .loop) .place + (lengthAt ((c .before .before .before .before .before .before .before .before .args) .s .now) ((c .before .before .before .before .before .before .loop) .i))) = cc in
+    let e : (c .before .record-refusal) .result ≡ recordRefusal (kindNumberAt ((c .before .before .before .before .before .before .before .before .args) .s .now) ((c .before .before .before .before .before .before .loop) .i)) (lengthAt ((c .before .before .before .before .before .before .before .before .args) .s .now) ((c .before .before .before .before .before .before .loop) .i)) ((c .before .before .before .before .before .before .loop) .place + (lengthAt ((c .before .before .before .before .before .before .before .before .args) .s .now) ((c .before .before .before .before .before .before .loop) .i))) = ((c .before .record-refusal) .ensures ∙ ap (λ (k : ℕ). recordRefusal k ((c .before .before .before .before .length-at) .result) ((c .before .before .before .before .before .before .loop) .place + (c .before .before .before .widened) .result)) ((c .before .before .kind-number-at) .ensures) ∙ (ap (λ (l : ℕ). recordRefusal (kindNumberAt ((c .before .before .before .before .before .before .before .before .args) .s .now) ((c .before .before .before .before .before .before .loop) .i)) l ((c .before .before .before .before .before .before .loop) .place + (c .before .before .before .widened) .result)) ((c .before .before .before .before .length-at) .ensures) ∙ ap (λ (w : ℕ). recordRefusal (kindNumberAt ((c .before .before .before .before .before .before .before .before .args) .s .now) ((c .before .before .before .before .before .before .loop) .i)) (lengthAt ((c .before .before .before .before .before .before .before .before .args) .s .now) ((c .before .before .before .before .before .before .loop) .i)) ((c .before .before .before .before .before .before .loop) .place + w)) ((c .before .before .before .widened) .ensures .0 ∙ (c .before .before .before .before .length-at) .ensures))) in
     let w : (c .before .before .before .widened) .result ≡ (lengthAt ((c .before .before .before .before .before .before .before .before .args) .s .now) ((c .before .before .before .before .before .before .loop) .i)) = (c .before .before .before .widened) .ensures .0 ∙ (c .before .before .before .before .length-at) .ensures in
     (rw w (sym (from-passed _ _ _ _ ((c .before .before .before .before .before .loop-test) .taken) e ((c .if1) .left)) ∙ (c .before .before .before .before .before .before .loop) .inv .0), rw w (record-passed (kindNumberAt ((c .before .before .before .before .before .before .before .before .args) .s .now) ((c .before .before .before .before .before .before .loop) .i)) (lengthAt ((c .before .before .before .before .before .before .before .before .args) .s .now) ((c .before .before .before .before .before .before .loop) .i)) _ (sym e ∙ (c .if1) .left) .1))
 

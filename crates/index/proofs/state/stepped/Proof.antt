@@ -17,7 +17,7 @@ more-requires c κs = search needs
 returns : tie.Need-returns
 unfolding stateAfter
 returns c =
-    let e : opensHeader ((c .before .before .before .args) .kind) ≡ true = cc in
+    let e : opensHeader ((c .before .before .before .args) .kind) ≡ true = sym ((c .before .before .opens-header) .ensures) ∙ (c .before .if1) .taken in
     simp (e, (c .more) .ensures)
 
 more-requires-2 : tie.Need-more-requires-2
@@ -32,7 +32,7 @@ parts-after-requires c κs = search needs
 returns-2 : tie.Need-returns-2
 unfolding stateAfter
 returns-2 c =
-    let e : opensHeader ((c .before .before .before .before .before .args) .kind) ≡ false = cc in
+    let e : opensHeader ((c .before .before .before .before .before .args) .kind) ≡ false = sym ((c .before .before .before .before .opens-header) .ensures) ∙ (c .before .before .before .if1) .left in
     simp (e, (c .before .before .more2) .ensures, (c .before .counting-after) .ensures, (c .parts-after) .ensures)
 
 pub stepped-spec : {M : Type 1} → statement M

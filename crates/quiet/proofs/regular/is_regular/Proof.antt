@@ -2,9 +2,10 @@
 -- Made by ./proofs from Proof.tmpl: change that.
 use mathlib.Core.Path.{_≡_, refl, sym, _∙_, ap}
 use mathlib.Core.Bool.{Bool, true, false}
-use Prim.Native.Nat.{_-_}
+use Prim.Native.Nat.{ℕ, _-_}
 use native.Mathlib.Omega.{arith}
-use Rattle.token.specs.Records.{count, kindAt}
+use Rattle.token.specs.Kinds.{kindOf}
+use Rattle.token.specs.Records.{count}
 use Rattle.quiet.specs.Regular.{both, isWhitespace, isEof}
 use Rattle.quiet.proofs.RegularLaws.{passesFrom, regular-decided, at-eof, at-second, at-other, at-end}
 use borrow.Author.Needs.{needs}
@@ -30,9 +31,7 @@ add-result : tie.Need-add-result Inv-loop μ-loop
 add-result c = search needs
 
 returns : tie.Need-returns Inv-loop μ-loop
-returns c =
-    let e : isEof (kindAt ((c .before .before .before .before .before .before .args) .records .now) ((c .before .before .before .before .loop) .i)) ≡ true = cc in
-    regular-decided ((c .before .before .before .before .before .before .args) .records .now) ((c .before .before .before .before .before .before .args) .base) _ (at-eof ((c .before .before .before .before .before .before .args) .records .now) ((c .before .before .before .before .loop) .i) ((c .before .before .before .before .loop) .behind) ((c .before .before .before .loop-test) .taken) e ∙ (c .before .before .before .before .loop) .inv)
+returns c = regular-decided ((c .before .before .before .before .before .before .args) .records .now) ((c .before .before .before .before .before .before .args) .base) _ (at-eof ((c .before .before .before .before .before .before .args) .records .now) ((c .before .before .before .before .loop) .i) ((c .before .before .before .before .loop) .behind) ((c .before .before .before .loop-test) .taken) ((ap (λ (n : ℕ). isEof (kindOf n)) (sym ((c .before .before .kind-number-at) .ensures)) ∙ sym ((c .before .is-eof) .ensures)) ∙ (c .if1) .taken) ∙ (c .before .before .before .before .loop) .inv)
 
 is-whitespace-requires : tie.Need-is-whitespace-requires Inv-loop μ-loop
 is-whitespace-requires c κs = search needs
@@ -41,10 +40,7 @@ both-requires : tie.Need-both-requires Inv-loop μ-loop
 both-requires c κs = search needs
 
 returns-2 : tie.Need-returns-2 Inv-loop μ-loop
-returns-2 c =
-    let e : isEof (kindAt ((c .before .before .before .before .before .before .before .before .before .args) .records .now) ((c .before .before .before .before .before .before .before .loop) .i)) ≡ false = cc in
-    let w : both ((c .before .before .before .before .before .before .before .loop) .behind) (isWhitespace (kindAt ((c .before .before .before .before .before .before .before .before .before .args) .records .now) ((c .before .before .before .before .before .before .before .loop) .i))) ≡ true = cc in
-    regular-decided ((c .before .before .before .before .before .before .before .before .before .args) .records .now) ((c .before .before .before .before .before .before .before .before .before .args) .base) _ (at-second ((c .before .before .before .before .before .before .before .before .before .args) .records .now) ((c .before .before .before .before .before .before .before .loop) .i) ((c .before .before .before .before .before .before .before .loop) .behind) ((c .before .before .before .before .before .before .loop-test) .taken) e w ∙ (c .before .before .before .before .before .before .before .loop) .inv)
+returns-2 c = regular-decided ((c .before .before .before .before .before .before .before .before .before .args) .records .now) ((c .before .before .before .before .before .before .before .before .before .args) .base) _ (at-second ((c .before .before .before .before .before .before .before .before .before .args) .records .now) ((c .before .before .before .before .before .before .before .loop) .i) ((c .before .before .before .before .before .before .before .loop) .behind) ((c .before .before .before .before .before .before .loop-test) .taken) ((ap (λ (n : ℕ). isEof (kindOf n)) (sym ((c .before .before .before .before .before .kind-number-at) .ensures)) ∙ sym ((c .before .before .before .before .is-eof) .ensures)) ∙ (c .before .before .before .if1) .left) ((ap (both ((c .before .before .before .before .before .before .before .loop) .behind)) (sym ((c .before .before .is-whitespace) .ensures ∙ ap (λ (n : ℕ). isWhitespace (kindOf n)) ((c .before .before .before .before .before .kind-number-at) .ensures))) ∙ sym ((c .before .both) .ensures)) ∙ (c .if2) .taken) ∙ (c .before .before .before .before .before .before .before .loop) .inv)
 
 add-i : tie.Need-add-i Inv-loop μ-loop
 add-i c = search needs
@@ -53,11 +49,7 @@ loop-less : tie.Need-loop-less Inv-loop μ-loop
 loop-less c = search needs
 
 loop-again : tie.Need-loop-again Inv-loop μ-loop
-loop-again c =
-    let e : isEof (kindAt ((c .before .before .before .before .before .before .before .before .before .args) .records .now) ((c .before .before .before .before .before .before .before .loop) .i)) ≡ false = cc in
-    let w : both ((c .before .before .before .before .before .before .before .loop) .behind) (isWhitespace (kindAt ((c .before .before .before .before .before .before .before .before .before .args) .records .now) ((c .before .before .before .before .before .before .before .loop) .i))) ≡ false = cc in
-    let k : (c .before .before .is-whitespace) .result ≡ isWhitespace (kindAt ((c .before .before .before .before .before .before .before .before .before .args) .records .now) ((c .before .before .before .before .before .before .before .loop) .i)) = cc in
-    rw k (at-other ((c .before .before .before .before .before .before .before .before .before .args) .records .now) ((c .before .before .before .before .before .before .before .loop) .i) ((c .before .before .before .before .before .before .before .loop) .behind) ((c .before .before .before .before .before .before .loop-test) .taken) e w ∙ (c .before .before .before .before .before .before .before .loop) .inv)
+loop-again c = rw ((c .before .before .is-whitespace) .ensures ∙ ap (λ (n : ℕ). isWhitespace (kindOf n)) ((c .before .before .before .before .before .kind-number-at) .ensures)) (at-other ((c .before .before .before .before .before .before .before .before .before .args) .records .now) ((c .before .before .before .before .before .before .before .loop) .i) ((c .before .before .before .before .before .before .before .loop) .behind) ((c .before .before .before .before .before .before .loop-test) .taken) ((ap (λ (n : ℕ). isEof (kindOf n)) (sym ((c .before .before .before .before .before .kind-number-at) .ensures)) ∙ sym ((c .before .before .before .before .is-eof) .ensures)) ∙ (c .before .before .before .if1) .left) ((ap (both ((c .before .before .before .before .before .before .before .loop) .behind)) (sym ((c .before .before .is-whitespace) .ensures ∙ ap (λ (n : ℕ). isWhitespace (kindOf n)) ((c .before .before .before .before .before .kind-number-at) .ensures))) ∙ sym ((c .before .both) .ensures)) ∙ (c .if2) .left) ∙ (c .before .before .before .before .before .before .before .loop) .inv)
 
 returns-3 : tie.Need-returns-3 Inv-loop μ-loop
 returns-3 c = regular-decided ((c .before .before .before .args) .records .now) ((c .before .before .before .args) .base) _ (at-end ((c .before .before .before .args) .records .now) ((c .before .loop) .i) ((c .before .loop) .behind) ((c .loop-test) .left) ∙ (c .before .loop) .inv)

@@ -3,10 +3,10 @@
 use mathlib.Core.Path.{refl, sym, _∙_}
 use native.Mathlib.Omega.{arith}
 use Rattle.scan.specs.CodeLaws.{other-code, number-sign-start, carriage-return-start}
-use Rattle.lex.specs.PutLaws.{put-is, put-alone}
+use Rattle.text_records.specs.PutLaws.{put-is, put-alone}
 use borrow.Author.Needs.{needs}
-use Rattle.lex.proofs.writing.put_token.Statement.{statement}
-use Rattle.lex.proofs.writing.put_token.Tie as tie
+use Rattle.text_records.proofs.put_token.Statement.{statement}
+use Rattle.text_records.proofs.put_token.Tie as tie
 
 shared-slice-read-b : tie.Need-shared-slice-read-b
 shared-slice-read-b c = search needs

@@ -23,7 +23,7 @@ ghost use Rattle.token.specs.Writing.{recordsOf, putAt};
 ghost use Rattle.scan.specs.Lexer.{tokensFrom};
 ghost use Rattle.scan.specs.Bytes.{space, quotationMark, apostrophe};
 ghost use Rattle.scan.specs.Codes.{codeTable};
-ghost use Rattle.lex.specs.Put.{Put};
+ghost use Rattle.text_records.specs.Put.{Put};
 
 // put_record at the record's first byte: its number is not needed.
 fn put(records: &mut [u8], out: usize, size: usize, kind: usize)

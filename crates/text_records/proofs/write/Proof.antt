@@ -4,10 +4,10 @@ use mathlib.Core.Path.{_∙_}
 use native.Mathlib.Omega.{arith}
 use Prim.Native.Nat.{_-_}
 use lib.ListN.{length}
-use Rattle.lex.specs.LexLaws.{Placed, placed-begun, placed-room, placed-on, placed-end, placed-all}
+use Rattle.text_records.specs.TextRecordLaws.{Placed, placed-begun, placed-room, placed-on, placed-end, placed-all}
 use borrow.Author.Needs.{needs}
-use Rattle.lex.proofs.writing.write.Statement.{statement}
-use Rattle.lex.proofs.writing.write.Tie as tie
+use Rattle.text_records.proofs.write.Statement.{statement}
+use Rattle.text_records.proofs.write.Tie as tie
 
 abbrev Inv-loop : tie.InvT-loop
 Inv-loop text base records₀ codes at₀ out₀ records at out = Placed text base records₀ at out records
