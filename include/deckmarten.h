@@ -9,7 +9,7 @@
 #include <stdint.h>
 
 /* The version of this header: a million times the major number, a thousand times the minor one, and the patch number. */
-#define DECKMARTEN_VERSION 8000
+#define DECKMARTEN_VERSION 9000
 
 #ifdef __cplusplus
 extern "C" {
@@ -157,6 +157,18 @@ enum deckmarten_expected {
     DECKMARTEN_EXPECTED_LITERAL_STRING_BASIC_STRING_OR_UNQUOTED_STRING = 14, /* a key part that is no multi-line string */
 };
 
+/* Modes: which comma is blamed where `}` stands after a comma, a key or `=` (message 19). If there is none, the place before the `}` is. All
+ * else is the same in both. */
+enum deckmarten_mode {
+    DECKMARTEN_MODE_CRATE = 0, /* the nearest Comma before the `}`, wherever it is, as in toml_parser */
+    DECKMARTEN_MODE_BRACE = 1, /* the nearest Comma before the `}` and behind the `{` of the same table */
+};
+
+/* What a caller chooses of a run; `{0}` is what toml_parser does. */
+struct deckmarten_options {
+    uint32_t mode; /* one of enum deckmarten_mode; any other number is refusal MODE */
+};
+
 /* Refusals, of all functions. The place is the number of a record, from 0, where nothing else is said; at NONE it is 0. */
 enum deckmarten_refusal {
     DECKMARTEN_REFUSAL_NONE = 0,           /* the list was read to its end */
@@ -173,6 +185,7 @@ enum deckmarten_refusal {
     DECKMARTEN_REFUSAL_TOKENS = 11,        /* the tokens do not fit; place: 0 */
     DECKMARTEN_REFUSAL_NOT_QUIET = 12,     /* the run is not quiet, or the buffer does not hold its events; no place */
     DECKMARTEN_REFUSAL_INDEX = 13,         /* the index does not fit; no place */
+    DECKMARTEN_REFUSAL_MODE = 15,          /* an unknown mode; place: 0. It comes before all others */
 };
 
 /* What is at a position in the bytes of an index. */
@@ -221,9 +234,10 @@ struct deckmarten_text_answer {
     size_t errors;
 };
 
-/* Reads a text as a document: its records, its events and its errors. Refusals 9 to 11 write nothing. */
-struct deckmarten_text_answer deckmarten_parse_text(const uint8_t *text, size_t bytes, uint8_t *records, size_t record_bytes,
-                                                    uint32_t *events, size_t event_words, uint32_t *errors, size_t error_words);
+/* Reads a text as a document: its records, its events and its errors. Refusals 9 to 11 and MODE write nothing. */
+struct deckmarten_text_answer deckmarten_parse_text(const uint8_t *text, size_t bytes, struct deckmarten_options options, uint8_t *records,
+                                                    size_t record_bytes, uint32_t *events, size_t event_words, uint32_t *errors,
+                                                    size_t error_words);
 
 /* The same run as deckmarten_is_quiet and deckmarten_index take it. */
 static inline struct deckmarten_answer deckmarten_run_of_text(struct deckmarten_text_answer answer) {
@@ -244,14 +258,18 @@ struct deckmarten_lexed {
 struct deckmarten_lexed deckmarten_lex(const uint8_t *text, size_t bytes, uint8_t *records, size_t record_bytes);
 
 /* A document, a dotted key, one part of a key, and a value. The first token starts at `base`. */
-struct deckmarten_answer deckmarten_parse_document(const uint8_t *records, size_t bytes, uint32_t base, uint32_t *events,
-                                                   size_t event_words, uint32_t *errors, size_t error_words);
-struct deckmarten_answer deckmarten_parse_key(const uint8_t *records, size_t bytes, uint32_t base, uint32_t *events,
-                                              size_t event_words, uint32_t *errors, size_t error_words);
-struct deckmarten_answer deckmarten_parse_simple_key(const uint8_t *records, size_t bytes, uint32_t base, uint32_t *events,
-                                                     size_t event_words, uint32_t *errors, size_t error_words);
-struct deckmarten_answer deckmarten_parse_value(const uint8_t *records, size_t bytes, uint32_t base, uint32_t *events,
-                                                size_t event_words, uint32_t *errors, size_t error_words);
+struct deckmarten_answer deckmarten_parse_document(const uint8_t *records, size_t bytes, uint32_t base,
+                                                   struct deckmarten_options options, uint32_t *events, size_t event_words,
+                                                   uint32_t *errors, size_t error_words);
+struct deckmarten_answer deckmarten_parse_key(const uint8_t *records, size_t bytes, uint32_t base,
+                                              struct deckmarten_options options, uint32_t *events, size_t event_words,
+                                              uint32_t *errors, size_t error_words);
+struct deckmarten_answer deckmarten_parse_simple_key(const uint8_t *records, size_t bytes, uint32_t base,
+                                                     struct deckmarten_options options, uint32_t *events, size_t event_words,
+                                                     uint32_t *errors, size_t error_words);
+struct deckmarten_answer deckmarten_parse_value(const uint8_t *records, size_t bytes, uint32_t base,
+                                                struct deckmarten_options options, uint32_t *events, size_t event_words,
+                                                uint32_t *errors, size_t error_words);
 
 /* A token as a structure. Its kind is to be one of enum deckmarten_kind. */
 struct deckmarten_token {
@@ -262,8 +280,13 @@ struct deckmarten_token {
 /* A document whose tokens are structures. The answer and both buffers are those of deckmarten_parse_document for records of the same
  * lengths and kinds. Each call clears 384 KiB of stack, in which it makes the records: four tokens take 18 microseconds, their records
  * at deckmarten_parse_document 59 nanoseconds, and a thread with a stack of 256 KiB is aborted. */
-struct deckmarten_answer deckmarten_parse_tokens(const struct deckmarten_token *tokens, size_t count, uint32_t base, uint32_t *events,
-                                                 size_t event_words, uint32_t *errors, size_t error_words);
+struct deckmarten_answer deckmarten_parse_tokens_in(uint32_t mode, const struct deckmarten_token *tokens, size_t count, uint32_t base,
+                                                    uint32_t *events, size_t event_words, uint32_t *errors, size_t error_words);
+static inline struct deckmarten_answer deckmarten_parse_tokens(const struct deckmarten_token *tokens, size_t count, uint32_t base,
+                                                               struct deckmarten_options options, uint32_t *events, size_t event_words,
+                                                               uint32_t *errors, size_t error_words) {
+    return deckmarten_parse_tokens_in(options.mode, tokens, count, base, events, event_words, errors, error_words);
+}
 
 /* Was the run with this answer, which left its events in this buffer, quiet: not refused, no error, and no event of empty span? A run
  * whose buffers were too small is refused, so it is not quiet. */

@@ -110,6 +110,7 @@ static inline const char *deckmarten_refusal_text(uint32_t number) {
     case DECKMARTEN_REFUSAL_TOKENS: return "the tokens do not fit";
     case DECKMARTEN_REFUSAL_NOT_QUIET: return "the run is not quiet";
     case DECKMARTEN_REFUSAL_INDEX: return "the index does not fit";
+    case DECKMARTEN_REFUSAL_MODE: return "an unknown mode";
     default: return "?";
     }
 }

@@ -15,27 +15,27 @@ def without_runs(items):
 
 
 class List:
-    """A list at an entry, as chunks of 6 bytes, the last perhaps shorter, with its base and room."""
+    """A list at an entry, as chunks of 6 bytes, the last perhaps shorter, with its mode, base and room."""
 
-    def __init__(self, entry, base, rooms, chunks):
-        self.entry, self.base, self.rooms, self.chunks = entry, base, rooms, chunks
+    def __init__(self, mode, entry, base, rooms, chunks):
+        self.mode, self.entry, self.base, self.rooms, self.chunks = mode, entry, base, rooms, chunks
 
     @staticmethod
-    def of(words):
+    def of(mode, words):
         """The case in the words `ENTRY BASE EVENTWORDS ERRORWORDS x:HEX`, or with the entry `fits` `fits BASE EVENTWORDS x:HEX`."""
         entry, base, *rooms, records = words
         data = bytes.fromhex(records[2:])
-        return List(entry, int(base), tuple(map(int, rooms)), [data[at:at + 6] for at in range(0, len(data), 6)])
+        return List(mode, entry, int(base), tuple(map(int, rooms)), [data[at:at + 6] for at in range(0, len(data), 6)])
 
     def name(self):
         return f'list of {len(self.chunks)} records'
 
     def line(self):
-        return ' '.join([self.entry, str(self.base), *map(str, self.rooms), 'x:' + b''.join(self.chunks).hex()])
+        return ' '.join([*self.mode, self.entry, str(self.base), *map(str, self.rooms), 'x:' + b''.join(self.chunks).hex()])
 
     def shown(self):
         """The line with tokens as kind:length where the records are whole."""
-        words = [self.entry, str(self.base), *map(str, self.rooms)]
+        words = [*self.mode, self.entry, str(self.base), *map(str, self.rooms)]
         for chunk in self.chunks:
             length, kind = (int.from_bytes(part, 'little') for part in (chunk[:4], chunk[4:]))
             words.append(f'{kind}:{length}' if len(chunk) == 6 else 'x:' + chunk.hex())
@@ -44,48 +44,48 @@ class List:
     def smaller(self):
         """Simpler cases to try: with fewer tokens, long runs first; then with base 0, lengths of 1, and ample room."""
         chunks = self.chunks
-        found = [List(self.entry, self.base, self.rooms, fewer) for fewer in without_runs(chunks)]
+        found = [List(self.mode, self.entry, self.base, self.rooms, fewer) for fewer in without_runs(chunks)]
         if self.base:
-            found.append(List(self.entry, 0, self.rooms, chunks))
+            found.append(List(self.mode, self.entry, 0, self.rooms, chunks))
         for at, chunk in enumerate(chunks if len(chunks) ** 2 <= MOST_ITEMS else []):
             if len(chunk) == 6 and int.from_bytes(chunk[:4], 'little') > 1:
-                found.append(List(self.entry, self.base, self.rooms, chunks[:at] + [b'\1\0\0\0' + chunk[4:]] + chunks[at + 1:]))
+                found.append(List(self.mode, self.entry, self.base, self.rooms, chunks[:at] + [b'\1\0\0\0' + chunk[4:]] + chunks[at + 1:]))
         ample = tuple(size * (3 * len(chunks) + 2) for size in SPARE[:len(self.rooms)])
         if self.rooms != ample:
-            found.append(List(self.entry, self.base, ample, chunks))
+            found.append(List(self.mode, self.entry, self.base, ample, chunks))
         return found
 
 
 class Text:
-    """A text with room for records, events and errors."""
+    """A text with its mode and room for records, events and errors."""
 
-    def __init__(self, rooms, data):
-        self.rooms, self.data = rooms, data
+    def __init__(self, mode, rooms, data):
+        self.mode, self.rooms, self.data = mode, rooms, data
 
     @staticmethod
-    def of(words):
+    def of(mode, words):
         """The case in the words `text RECORDBYTES EVENTWORDS ERRORWORDS x:HEX`."""
-        return Text(tuple(map(int, words[1:4])), bytes.fromhex(words[4][2:]))
+        return Text(mode, tuple(map(int, words[1:4])), bytes.fromhex(words[4][2:]))
 
     def name(self):
         return f'text of {len(self.data)} bytes'
 
     def line(self):
-        return ' '.join(['text', *map(str, self.rooms), 'x:' + self.data.hex()])
+        return ' '.join([*self.mode, 'text', *map(str, self.rooms), 'x:' + self.data.hex()])
 
     def shown(self):
         """The line with the text as it is."""
-        return ' '.join(['text', *map(str, self.rooms), repr(self.data)[1:]])
+        return ' '.join([*self.mode, 'text', *map(str, self.rooms), repr(self.data)[1:]])
 
     def smaller(self):
         """Simpler cases to try: with fewer bytes, long runs first; then with letters for bytes, and ample room."""
         data = self.data
-        found = [Text(self.rooms, fewer) for fewer in without_runs(data)]
+        found = [Text(self.mode, self.rooms, fewer) for fewer in without_runs(data)]
         if len(data) < 100:
-            found += [Text(self.rooms, data[:at] + b'a' + data[at + 1:]) for at in range(len(data)) if data[at] != ord('a')]
+            found += [Text(self.mode, self.rooms, data[:at] + b'a' + data[at + 1:]) for at in range(len(data)) if data[at] != ord('a')]
         ample = tuple(size * (3 * len(data) + 3) for size in (6, *SPARE))
         if self.rooms != ample:
-            found.append(Text(ample, data))
+            found.append(Text(self.mode, ample, data))
         return found
 
 
@@ -96,7 +96,7 @@ class Index:
         self.answer, self.room, self.words = answer, room, words
 
     @staticmethod
-    def of(words):
+    def of(_, words):
         """The case in the words `index REFUSAL PLACE EVENTS ERRORS INDEXBYTES x:HEX`."""
         *answer, room = map(int, words[1:6])
         data = bytes.fromhex(words[6][2:])
@@ -134,7 +134,7 @@ class Entries:
         self.at, self.data = at, data
 
     @staticmethod
-    def of(words):
+    def of(_, words):
         """The case in the words `header AT x:HEX`."""
         return Entries(int(words[1]), bytes.fromhex(words[2][2:]))
 
@@ -159,6 +159,7 @@ CASES = {'text': Text, 'index': Index, 'header': Entries}
 
 
 def case_of(said):
-    """The case in the checker's line `differs NUMBER ..`."""
+    """The case in the checker's line `differs NUMBER ..`, behind whose number the mode of a list or a text stands as `mode:NUMBER`."""
     words = said.split()[2:]
-    return CASES.get(words[0], List).of(words)
+    mode, words = (words[:1], words[1:]) if words[0].startswith('mode:') else ([], words)
+    return CASES.get(words[0], List).of(mode, words)

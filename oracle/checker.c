@@ -18,13 +18,14 @@ struct frame {
     uint32_t event_words, error_words;
 };
 
-typedef struct deckmarten_answer parse(const uint8_t *, size_t, uint32_t, uint32_t *, size_t, uint32_t *, size_t);
+typedef struct deckmarten_answer parse(const uint8_t *, size_t, uint32_t, struct deckmarten_options, uint32_t *, size_t, uint32_t *, size_t);
 
 static parse *const entries[4] = {deckmarten_parse_document, deckmarten_parse_key, deckmarten_parse_simple_key, deckmarten_parse_value};
 static const char *const names[4] = {"document", "key", "simple_key", "value"};
 
 static struct room token_room;
 static uint64_t documents, as_structs, texts, verdicts;
+static struct deckmarten_options options; /* of the case that is compared */
 
 /* The token structs of so many records. What lies between them is not 0. */
 static const struct deckmarten_token *structs_of(const uint8_t *bytes, size_t count) {
@@ -42,7 +43,7 @@ static const struct deckmarten_token *structs_of(const uint8_t *bytes, size_t co
 /* Prints the case, what the library gave and what was expected. */
 static _Noreturn void differs(const struct frame *f, const char *what, const uint8_t *bytes, const uint32_t *wanted, struct deckmarten_answer a,
                               const uint32_t *events, const uint32_t *errors) {
-    printf("differs %" PRIu64 " %s %u %u %u ", cases, names[f->entry], f->base, f->event_room, f->error_room);
+    printf("differs %" PRIu64 " mode:%u %s %u %u %u ", cases, options.mode, names[f->entry], f->base, f->event_room, f->error_room);
     print_hex(bytes, f->bytes);
     printf("\n%s %u %zu %zu %zu", what, a.refusal, a.place, a.events, a.errors);
     print_words(events, f->event_room);
@@ -69,19 +70,20 @@ static void check_structs(const struct frame *f, const uint8_t *bytes, const uin
     size_t count = f->bytes / 6;
     uint32_t *events = fresh(&event_room, f->event_room), *errors = fresh(&error_room, f->error_room);
     compare(f, "by structs: ", bytes, wanted,
-            deckmarten_parse_tokens(structs_of(bytes, count), count, f->base, events, f->event_room, errors, f->error_room), events, errors);
+            deckmarten_parse_tokens(structs_of(bytes, count), count, f->base, options, events, f->event_room, errors, f->error_room), events, errors);
     as_structs++;
 }
 
-static void check_case(void) {
+static void check_case(uint32_t mode) {
     struct frame f;
+    options.mode = mode;
     memcpy(&f, take(sizeof f), sizeof f);
-    if (f.entry > 3 || f.refusal > 8 || f.event_words > f.event_room || f.error_words > f.error_room) broken("a wrong frame");
+    if (f.entry > 3 || (f.refusal > 8 && f.refusal != DECKMARTEN_REFUSAL_MODE) || f.event_words > f.event_room || f.error_words > f.error_room) broken("a wrong frame");
     size_t whole = ((size_t)f.bytes + 3) / 4 * 4;
     const uint8_t *bytes = take(whole + 4 * ((size_t)f.event_words + f.error_words));
     const uint32_t *wanted = (const uint32_t *)(bytes + whole);
     uint32_t *events = fresh(&event_room, f.event_room), *errors = fresh(&error_room, f.error_room);
-    compare(&f, "library:    ", bytes, wanted, entries[f.entry](bytes, f.bytes, f.base, events, f.event_room, errors, f.error_room), events, errors);
+    compare(&f, "library:    ", bytes, wanted, entries[f.entry](bytes, f.bytes, f.base, options, events, f.event_room, errors, f.error_room), events, errors);
     if (f.entry == 0 && f.bytes % 6 == 0 && (documents++ % STRUCTS_EACH == 0 || f.bytes > LONG)) check_structs(&f, bytes, wanted);
     see(wanted, f.event_words, wanted + f.event_words, f.error_words);
     cases++;
@@ -108,12 +110,13 @@ int main(void) {
     for (;;) {
         switch (word()) {
         case 0: return finish();
-        case 1: check_case(); break;
+        case 1: check_case(DECKMARTEN_MODE_CRATE); break;
         case 2: show_note(); break;
         case 3: texts++, cases += check_text(); break;
         case 4: check_fits(), verdicts++, cases++; break;
         case 5: cases += check_index(); break;
         case 6: check_found(), cases++; break;
+        case 7: check_case(word()); break;
         default: broken("a frame of no known sort");
         }
     }

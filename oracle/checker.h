@@ -29,7 +29,7 @@ struct room {
 static struct room input, event_room, error_room;
 static size_t start, end; /* of what was read into `input` and not yet taken */
 /* Comparisons so far, and how often each refusal was answered. */
-#define REFUSALS 14
+#define REFUSALS 16
 static uint64_t cases, refused[REFUSALS];
 /* A bit for each kind of token and of event and each message that occurred. */
 static uint32_t seen_kinds, seen_events, seen_messages;

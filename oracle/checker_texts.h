@@ -7,7 +7,7 @@
 #include "checker.h"
 
 struct text_frame {
-    uint32_t bytes, record_bytes, event_words, error_words, rooms;
+    uint32_t mode, bytes, record_bytes, event_words, error_words, rooms;
 };
 
 struct rooms {
@@ -66,7 +66,7 @@ static bool holds_bytes(const uint8_t *buffer, size_t bytes, const uint8_t *expe
 
 /* Prints the text and its room; what was given and what was wanted follow. */
 static void print_case(const struct text *t, const struct in_room *want) {
-    printf("differs %" PRIu64 " text %u %u %u ", cases, want->room.record_bytes, want->room.event_words, want->room.error_words);
+    printf("differs %" PRIu64 " mode:%u text %u %u %u ", cases, t->frame.mode, want->room.record_bytes, want->room.event_words, want->room.error_words);
     print_hex(t->bytes, t->frame.bytes);
     printf("\n");
 }
@@ -108,8 +108,9 @@ static void check_parse(const struct text *t, const struct in_room *want) {
     const struct rooms *room = &want->room, *written = &want->written;
     uint8_t *records = fresh_bytes(room->record_bytes);
     uint32_t *events = fresh(&event_room, room->event_words), *errors = fresh(&error_room, room->error_words);
+    struct deckmarten_options options = {t->frame.mode};
     struct deckmarten_text_answer got =
-        deckmarten_parse_text(t->bytes, t->frame.bytes, records, room->record_bytes, events, room->event_words, errors, room->error_words);
+        deckmarten_parse_text(t->bytes, t->frame.bytes, options, records, room->record_bytes, events, room->event_words, errors, room->error_words);
     if (got.refusal == want->parsed.refusal && got.place == want->parsed.place && got.base == want->parsed.base &&
         got.records == want->parsed.records && got.events == want->events && got.errors == want->errors &&
         holds_bytes(records, room->record_bytes, t->records, written->record_bytes) &&
@@ -172,14 +173,16 @@ static uint64_t check_text(void) {
     return t.frame.rooms;
 }
 
-/* Whether a list fits, is regular, and gives a quiet run in the room that there is for events, with none for errors. */
+/* Whether a list fits, is regular, and gives a quiet run in the room that there is for events, with none for errors. That does not hang on
+ * the mode, so both are taken in turn. */
 static void check_fits(void) {
     struct fits_frame f;
     memcpy(&f, take(sizeof f), sizeof f);
     const uint8_t *bytes = take(((size_t)f.bytes + 3) / 4 * 4);
     uint32_t *events = fresh(&event_room, f.event_room), *errors = fresh(&error_room, 0);
     struct deckmarten_verdict got = deckmarten_fits(bytes, f.bytes, f.base, events, f.event_room);
-    struct deckmarten_answer answer = deckmarten_parse_document(bytes, f.bytes, f.base, events, f.event_room, errors, 0);
+    struct deckmarten_options options = {cases % 2 ? DECKMARTEN_MODE_BRACE : DECKMARTEN_MODE_CRATE};
+    struct deckmarten_answer answer = deckmarten_parse_document(bytes, f.bytes, f.base, options, events, f.event_room, errors, 0);
     bool quiet = deckmarten_is_quiet(answer, events, f.event_room);
     bool regular = f.regular == 2 || deckmarten_is_regular(bytes, f.bytes, f.base);
     if (same_verdict(got, &f.verdict) && quiet == f.quiet && regular == (f.regular != 0)) {

@@ -15,6 +15,8 @@ use Prim.Native.Nat.{ℕ, zero, suc, _+_, _*_, _/_, _%_}
 use mathlib.Core.List.{List, [], _∷_, _++_}
 use Rattle.token.specs.Kinds.{kindOf}
 use Rattle.token.specs.Tokens.{Tok, tok}
+use Rattle.rules.specs.declared.options.Mode.{Mode}
+use Rattle.rules.specs.declared.options.Options.{Options}
 use Rattle.rules.specs.Answer.{Outcome, walked}
 use Rattle.rules.specs.Entries.{Entry, parse}
 
@@ -43,9 +45,13 @@ lay [] p = []
 lay (kind ∷ []) p = []
 lay (kind ∷ length ∷ more) p = tok (kindOf kind) p (p + length) ∷ lay more (p + length)
 
+-- the options of a mode
+abbrev pub in-mode : Mode → Options
+in-mode mode = record { mode = mode }
+
 -- what an entry does with tokens that were checked
-abbrev pub walk : Entry → List Tok → List ℕ → List ℕ → Outcome
-walk entry all events errors = walked all (parse entry all .items) events errors
+abbrev pub walk : Mode → Entry → List Tok → List ℕ → List ℕ → Outcome
+walk mode entry all events errors = walked mode all (parse entry all .items) events errors
 
 -- refusal, place and counts; then the written words of each buffer and how many are untouched
 abbrev pub gives : ℕ → ℕ → ℕ → ℕ → List ℕ → ℕ → List ℕ → ℕ → Outcome
@@ -72,12 +78,13 @@ use Rattle.token.specs.Check.{checkedFrom, checked}
 use Rattle.rules.specs.Turns.{turns}
 use Rattle.rules.specs.Nest.{onOpen}
 use Rattle.rules.specs.Lines.{lineOf}
-use Rattle.rules.specs.Words.{lookedUp}
+use Rattle.rules.specs.declared.options.Mode.{Mode}
+use Rattle.rules.specs.Words.{lookedUp, commaBetween}
 use Rattle.rules.specs.Entries.{documentEntry, keyEntry, simpleKeyEntry, valueEntry}
 use Rattle.rules.specs.Answer.{Outcome, outcome, walked, filled}
-use Rattle.cases.specs.Shape.{bytes, words, repeated, untouched, lay, walk, gives, allWords}
+use Rattle.cases.specs.Shape.{bytes, words, repeated, untouched, lay, in-mode, walk, gives, allWords}
 '''
-UNFOLDING = 'unfolding kindOf lengthAt kindNumberAt tokensFrom allTokens checkedFrom checked turns onOpen lineOf lookedUp outcome walked filled'
+UNFOLDING = 'unfolding kindOf lengthAt kindNumberAt tokensFrom allTokens checkedFrom checked turns onOpen lineOf lookedUp commaBetween outcome walked filled'
 
 
 def types_only(text):

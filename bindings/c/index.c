@@ -38,6 +38,7 @@ static const struct {
 static uint8_t records[DECKMARTEN_RECORD_BYTES(DECKMARTEN_TEXT_RECORDS(MOST))], bytes[ROOM];
 static uint32_t events[DECKMARTEN_EVENT_WORDS(DECKMARTEN_TEXT_RECORDS(MOST))], errors[DECKMARTEN_ERROR_WORDS(DECKMARTEN_TEXT_RECORDS(MOST))];
 static const size_t event_words = sizeof events / sizeof *events, error_words = sizeof errors / sizeof *errors;
+static const struct deckmarten_options as_crate = {DECKMARTEN_MODE_CRATE};
 static int wrong;
 
 static void expect(bool holds, const char *what, int number) {
@@ -47,8 +48,8 @@ static void expect(bool holds, const char *what, int number) {
 }
 
 static struct deckmarten_answer run(const char *text) {
-    return deckmarten_run_of_text(deckmarten_parse_text((const uint8_t *)text, strlen(text), records, sizeof records, events, event_words,
-                                                        errors, error_words));
+    return deckmarten_run_of_text(deckmarten_parse_text((const uint8_t *)text, strlen(text), as_crate, records, sizeof records, events,
+                                                        event_words, errors, error_words));
 }
 
 /* Whether the bytes from there on are as they were. */

@@ -6,7 +6,7 @@
 #include "fenced.h"
 #include "lists.h"
 
-typedef struct deckmarten_answer parse(const uint8_t *, size_t, uint32_t, uint32_t *, size_t, uint32_t *, size_t);
+typedef struct deckmarten_answer parse(const uint8_t *, size_t, uint32_t, struct deckmarten_options, uint32_t *, size_t, uint32_t *, size_t);
 static parse *const entries[4] = {deckmarten_parse_document, deckmarten_parse_key, deckmarten_parse_simple_key, deckmarten_parse_value};
 static const char *const names[4] = {"document", "key", "simple_key", "value"};
 
@@ -17,6 +17,7 @@ struct run {
     const struct list *list;
     size_t records;
     int entry, at_end;
+    struct deckmarten_options options;
     struct deckmarten_answer answer;
 };
 
@@ -24,7 +25,7 @@ static void *read_list(void *data) {
     struct run *run = data;
     size_t bytes = DECKMARTEN_SIZE_RECORD * run->records;
     size_t event_words = DECKMARTEN_EVENT_WORDS(run->records), error_words = DECKMARTEN_ERROR_WORDS(run->records);
-    run->answer = entries[run->entry](lend(record_memory, bytes, run->at_end), bytes, 0,
+    run->answer = entries[run->entry](lend(record_memory, bytes, run->at_end), bytes, 0, run->options,
                                       lend(event_memory, sizeof(uint32_t) * event_words, run->at_end), event_words,
                                       lend(error_memory, sizeof(uint32_t) * error_words, run->at_end), error_words);
     return NULL;
@@ -51,13 +52,15 @@ int main(void) {
             struct run run = {.list = &lists[i], .records = count_records(&lists[i]), .at_end = at_end};
             write_records(&lists[i], lend(record_memory, DECKMARTEN_SIZE_RECORD * run.records, at_end));
             for (run.entry = 0; run.entry < 4; run.entry++) {
-                size_t used = stack_used(stack, read_list, &run);
-                if (used > most) most = used;
-                check(&run);
+                for (run.options.mode = DECKMARTEN_MODE_CRATE; run.options.mode <= DECKMARTEN_MODE_BRACE; run.options.mode++) {
+                    size_t used = stack_used(stack, read_list, &run);
+                    if (used > most) most = used;
+                    check(&run);
+                }
             }
         }
     }
-    printf("%d lists at four entries: at most %zu of %zu bytes of stack used, %zu of them by a thread that does nothing\n", LISTS, most,
+    printf("%d lists at four entries in both modes: at most %zu of %zu bytes of stack used, %zu of them by a thread that does nothing\n", LISTS, most,
            STACK, idle);
     return 0;
 }

@@ -41,6 +41,7 @@ static struct fenced text_memory, record_memory, event_memory, error_memory, ind
 struct run {
     const struct long_text *text;
     int at_end;
+    struct deckmarten_options options;
     struct deckmarten_text_answer answer;
     struct deckmarten_lexed lexed;
     struct deckmarten_verdict verdict;
@@ -57,7 +58,7 @@ static void *read_text(void *data) {
     uint8_t *records = lend(record_memory, record_bytes, run->at_end);
     run->lexed = deckmarten_lex(text, bytes, records, record_bytes);
     uint32_t *events = lend(event_memory, sizeof *events * event_words, run->at_end);
-    run->answer = deckmarten_parse_text(text, bytes, records, record_bytes, events, event_words,
+    run->answer = deckmarten_parse_text(text, bytes, run->options, records, record_bytes, events, event_words,
                                         lend(error_memory, sizeof(uint32_t) * error_words, run->at_end), error_words);
     size_t index_bytes = DECKMARTEN_INDEX_BYTES(run->text->headers), last = run->text->headers ? index_bytes - DECKMARTEN_SIZE_ENTRY : 0;
     uint8_t *index = lend(index_memory, index_bytes, run->at_end);
@@ -106,7 +107,7 @@ int main(void) {
     size_t idle = stack_used(stack, do_nothing, NULL), most = 0;
     for (int i = 0; i < TEXTS; i++)
         for (int at_end = texts[i].bytes >= LONGEST; at_end < 2; at_end++) {
-            struct run run = {.text = &texts[i], .at_end = at_end};
+            struct run run = {.text = &texts[i], .at_end = at_end, .options = {at_end ? DECKMARTEN_MODE_BRACE : DECKMARTEN_MODE_CRATE}};
             write_long_text(&texts[i], lend(text_memory, texts[i].bytes, at_end));
             size_t used = stack_used(stack, read_text, &run);
             if (used > most) most = used;

@@ -22,7 +22,7 @@ int main(int count, char **words) {
     uint32_t *events = lent("events", sizeof *events * DECKMARTEN_SIZE_EVENT * 2, 0), errors;
     for (size_t i = 0; i < (strcmp(lie, "records") ? 2 : 1); i++)
         memcpy(records + DECKMARTEN_SIZE_RECORD * i, "\1\0\0\0\12", DECKMARTEN_SIZE_RECORD);
-    deckmarten_parse_document(records, DECKMARTEN_RECORD_BYTES(2), 0, events, DECKMARTEN_SIZE_EVENT * 2, &errors, 0);
+    deckmarten_parse_document(records, DECKMARTEN_RECORD_BYTES(2), 0, (struct deckmarten_options){0}, events, DECKMARTEN_SIZE_EVENT * 2, &errors, 0);
     deckmarten_lex(text, 2, lexed, DECKMARTEN_RECORD_BYTES(4));
     /* a header of one event, twice */
     static const uint32_t event[DECKMARTEN_SIZE_EVENT] = {DECKMARTEN_EVENT_STD_TABLE_OPEN, 0, 0, 1};

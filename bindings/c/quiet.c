@@ -42,6 +42,7 @@ static const struct {
 
 static uint8_t records[DECKMARTEN_SIZE_RECORD * MOST];
 static uint32_t events[DECKMARTEN_EVENT_WORDS(MOST)], errors[DECKMARTEN_ERROR_WORDS(MOST)];
+static const struct deckmarten_options as_crate = {DECKMARTEN_MODE_CRATE};
 static int wrong;
 
 static void expect(bool holds, const char *what, int number) {
@@ -62,11 +63,11 @@ static void judge(int number) {
     for (size_t words = 0; words < DECKMARTEN_SIZE_EVENT * count; words++)
         expect(verdict_is(deckmarten_fits(records, bytes, 0, events, words), 0, DECKMARTEN_REFUSAL_EVENTS, 0), "fits in too little", number);
     expect(verdict_is(deckmarten_fits(records, bytes, 0, events, DECKMARTEN_SIZE_EVENT * count), cases[number].fits, 0, 0), "fits", number);
-    struct deckmarten_answer answer = deckmarten_parse_document(records, bytes, 0, events, event_words, errors, error_words);
+    struct deckmarten_answer answer = deckmarten_parse_document(records, bytes, 0, as_crate, events, event_words, errors, error_words);
     expect(deckmarten_is_quiet(answer, events, event_words) == cases[number].quiet, "is_quiet", number);
     /* a run in a smaller buffer is refused, and not quiet */
     if (!answer.events) return;
-    answer = deckmarten_parse_document(records, bytes, 0, events, DECKMARTEN_SIZE_EVENT * answer.events - 1, errors, error_words);
+    answer = deckmarten_parse_document(records, bytes, 0, as_crate, events, DECKMARTEN_SIZE_EVENT * answer.events - 1, errors, error_words);
     expect(!deckmarten_is_quiet(answer, events, event_words), "is_quiet in too little", number);
 }
 

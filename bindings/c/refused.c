@@ -32,6 +32,7 @@ static const struct {
 
 static uint8_t records[ROOM];
 static uint32_t events[ROOM], errors[ROOM];
+static const struct deckmarten_options as_crate = {DECKMARTEN_MODE_CRATE};
 
 static _Noreturn void stop(const char *function, int number) {
     fprintf(stderr, "refused: case %d at %s\n", number, function);
@@ -58,7 +59,7 @@ static void check_in(int number, const uint8_t *text, size_t bytes, uint32_t ref
     fill();
     struct deckmarten_lexed a = deckmarten_lex(text, bytes, records, room);
     if (a.refusal != refusal || a.place != place || a.base || a.records || !untouched()) stop("lex", number);
-    struct deckmarten_text_answer b = deckmarten_parse_text(text, bytes, records, room, events, room, errors, room);
+    struct deckmarten_text_answer b = deckmarten_parse_text(text, bytes, as_crate, records, room, events, room, errors, room);
     if (b.refusal != refusal || b.place != place || b.base || b.records || b.events || b.errors || !untouched()) stop("parse_text", number);
     struct deckmarten_verdict c = deckmarten_text_fits(text, bytes, records, room, events, room);
     if (c.fits || c.refusal != refusal || c.place != place || !untouched()) stop("text_fits", number);
@@ -86,7 +87,7 @@ static void check_well_formed(int number) {
     size_t bytes = strlen(cases[number].text);
     struct deckmarten_lexed a = deckmarten_lex(text, bytes, records, ROOM);
     if (a.refusal || a.place || a.base || a.records != 2 || records[0] != bytes || records[4] != DECKMARTEN_KIND_ATOM) stop("lex", number);
-    struct deckmarten_text_answer b = deckmarten_parse_text(text, bytes, records, ROOM, events, ROOM, errors, ROOM);
+    struct deckmarten_text_answer b = deckmarten_parse_text(text, bytes, as_crate, records, ROOM, events, ROOM, errors, ROOM);
     if (b.refusal || b.events != 1 || b.errors != 1 || errors[0] != DECKMARTEN_MESSAGE_KEY_WITH_NO_VALUE) stop("parse_text", number);
     struct deckmarten_verdict c = deckmarten_text_fits(text, bytes, records, ROOM, events, ROOM);
     if (c.fits || c.refusal || c.place) stop("text_fits", number);

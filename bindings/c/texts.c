@@ -10,6 +10,7 @@
 
 #define UNTOUCHED 0xa5
 
+static const struct deckmarten_options as_crate = {DECKMARTEN_MODE_CRATE};
 static int runs;
 static size_t step = 1;
 
@@ -66,8 +67,8 @@ static struct deckmarten_text_answer wanted(const struct lexed_text *lexed, stru
         return (struct deckmarten_text_answer){.refusal = DECKMARTEN_REFUSAL_TOKENS, .records = lexed->count};
     size_t bytes = DECKMARTEN_SIZE_RECORD * lexed->count;
     memcpy(buffers->records, lexed->records, bytes);
-    struct deckmarten_answer answer = deckmarten_parse_document(lexed->records, bytes, lexed->base, buffers->events, buffers->event_words,
-                                                                buffers->errors, buffers->error_words);
+    struct deckmarten_answer answer = deckmarten_parse_document(lexed->records, bytes, lexed->base, as_crate, buffers->events,
+                                                                buffers->event_words, buffers->errors, buffers->error_words);
     return (struct deckmarten_text_answer){answer.refusal, answer.place, lexed->base, lexed->count, answer.events, answer.errors};
 }
 
@@ -76,7 +77,7 @@ static struct deckmarten_text_answer check_parse(const struct text *text, const 
     struct buffers got = lend(record_bytes, event_words, error_words), right = lend(record_bytes, event_words, error_words);
     uint8_t *bytes = block(lexed->size);
     memcpy(bytes, lexed->bytes, lexed->size);
-    struct deckmarten_text_answer b = wanted(lexed, &right), a = deckmarten_parse_text(bytes, lexed->size, got.records, record_bytes,
+    struct deckmarten_text_answer b = wanted(lexed, &right), a = deckmarten_parse_text(bytes, lexed->size, as_crate, got.records, record_bytes,
                                                                                        got.events, event_words, got.errors, error_words);
     if (a.refusal != b.refusal || a.place != b.place || a.base != b.base || a.records != b.records || a.events != b.events ||
         a.errors != b.errors)

@@ -18,6 +18,7 @@
 static uint8_t records[DECKMARTEN_SIZE_RECORD * MOST];
 static struct deckmarten_token tokens[MOST];
 static uint32_t events[2][EVENT_WORDS], errors[2][ERROR_WORDS];
+static const struct deckmarten_options as_crate = {DECKMARTEN_MODE_CRATE};
 static int compared;
 
 /* Compares the two entries on the first so many records. */
@@ -34,9 +35,9 @@ static void compare(const char *name, size_t count, uint32_t base) {
             exit(1);
         }
     }
-    struct deckmarten_answer a = deckmarten_parse_tokens(tokens, count, base, events[0], EVENT_WORDS, errors[0], ERROR_WORDS);
+    struct deckmarten_answer a = deckmarten_parse_tokens(tokens, count, base, as_crate, events[0], EVENT_WORDS, errors[0], ERROR_WORDS);
     struct deckmarten_answer b =
-        deckmarten_parse_document(records, DECKMARTEN_SIZE_RECORD * count, base, events[1], EVENT_WORDS, errors[1], ERROR_WORDS);
+        deckmarten_parse_document(records, DECKMARTEN_SIZE_RECORD * count, base, as_crate, events[1], EVENT_WORDS, errors[1], ERROR_WORDS);
     compared++;
     if (a.refusal == b.refusal && a.place == b.place && a.events == b.events && a.errors == b.errors &&
         !memcmp(events[0], events[1], sizeof events[0]) && !memcmp(errors[0], errors[1], sizeof errors[0]))
@@ -54,7 +55,7 @@ static void compare_wrong(const char *name, const char *bytes) {
 }
 
 static void *read_none(void *data) {
-    deckmarten_parse_tokens(tokens, 0, 0, events[0], 0, errors[0], 0);
+    deckmarten_parse_tokens(tokens, 0, 0, as_crate, events[0], 0, errors[0], 0);
     return data;
 }
 

@@ -19,13 +19,14 @@ int main() {
     const std::string text = "[a.b]\nc = 1\n";
     const uint8_t *bytes = reinterpret_cast<const uint8_t *>(text.data());
     const size_t most = DECKMARTEN_TEXT_RECORDS(text.size());
+    const deckmarten_options as_crate = {DECKMARTEN_MODE_CRATE}, as_brace = {DECKMARTEN_MODE_BRACE}, unknown = {2};
     std::vector<uint8_t> records(DECKMARTEN_RECORD_BYTES(most)), index(DECKMARTEN_INDEX_BYTES(1));
     std::vector<uint32_t> events(DECKMARTEN_EVENT_WORDS(most)), errors(DECKMARTEN_ERROR_WORDS(most));
 
     expect(deckmarten_version() == DECKMARTEN_VERSION, "version");
     expect(deckmarten_text_fits(bytes, text.size(), records.data(), records.size(), events.data(), events.size()).fits, "text_fits");
-    const deckmarten_text_answer read = deckmarten_parse_text(bytes, text.size(), records.data(), records.size(), events.data(), events.size(),
-                                                              errors.data(), errors.size());
+    const deckmarten_text_answer read = deckmarten_parse_text(bytes, text.size(), as_crate, records.data(), records.size(), events.data(),
+                                                              events.size(), errors.data(), errors.size());
     expect(!read.refusal && read.records == 13 && read.events == 12 && !read.errors, "parse_text");
     const deckmarten_answer run = deckmarten_run_of_text(read);
     expect(deckmarten_is_quiet(run, events.data(), events.size()), "is_quiet");
@@ -39,19 +40,34 @@ int main() {
     expect(!std::memcmp(lexed.data(), records.data(), record_bytes), "records of lex");
     expect(deckmarten_is_regular(lexed.data(), lexed.size(), 0), "is_regular");
     expect(deckmarten_fits(lexed.data(), lexed.size(), 0, events.data(), events.size()).fits, "fits");
-    expect(deckmarten_parse_document(lexed.data(), lexed.size(), 0, events.data(), events.size(), errors.data(), errors.size()).events == 12,
+    expect(deckmarten_parse_document(lexed.data(), lexed.size(), 0, as_crate, events.data(), events.size(), errors.data(), errors.size()).events == 12,
            "parse_document");
 
     // `a` is a key, one part of it, and a value; a line that is no more is none of a document
     const deckmarten_token tokens[] = {{1, DECKMARTEN_KIND_ATOM}, {1, DECKMARTEN_KIND_NEWLINE}}, token = tokens[0];
     uint8_t one[DECKMARTEN_SIZE_RECORD];
     expect(deckmarten_put_record(one, token.kind, token.length) == one + sizeof one, "put_record");
-    expect(deckmarten_parse_key(one, sizeof one, 0, events.data(), events.size(), errors.data(), errors.size()).events == 1, "parse_key");
-    expect(deckmarten_parse_simple_key(one, sizeof one, 0, events.data(), events.size(), errors.data(), errors.size()).events == 1,
+    expect(deckmarten_parse_key(one, sizeof one, 0, as_crate, events.data(), events.size(), errors.data(), errors.size()).events == 1, "parse_key");
+    expect(deckmarten_parse_simple_key(one, sizeof one, 0, as_crate, events.data(), events.size(), errors.data(), errors.size()).events == 1,
            "parse_simple_key");
-    expect(deckmarten_parse_value(one, sizeof one, 0, events.data(), events.size(), errors.data(), errors.size()).events == 1, "parse_value");
+    expect(deckmarten_parse_value(one, sizeof one, 0, as_crate, events.data(), events.size(), errors.data(), errors.size()).events == 1, "parse_value");
     expect(events[0] == DECKMARTEN_EVENT_SCALAR, "a value's event");
-    expect(deckmarten_parse_tokens(tokens, 2, 0, events.data(), events.size(), errors.data(), errors.size()).errors == 1, "parse_tokens");
+    // [,{a}: the comma before the brace, and in brace mode the place before the closing one
+    const uint8_t kinds[] = {DECKMARTEN_KIND_LEFT_SQUARE_BRACKET, DECKMARTEN_KIND_COMMA, DECKMARTEN_KIND_LEFT_CURLY_BRACKET, DECKMARTEN_KIND_ATOM,
+                             DECKMARTEN_KIND_RIGHT_CURLY_BRACKET};
+    uint8_t table[DECKMARTEN_SIZE_RECORD * sizeof kinds], *end = table;
+    for (const uint8_t kind : kinds) end = deckmarten_put_record(end, kind, 1);
+    const uint32_t *second = errors.data() + DECKMARTEN_SIZE_ERROR;
+    expect(deckmarten_parse_value(table, sizeof table, 0, as_crate, events.data(), events.size(), errors.data(), errors.size()).errors == 3 &&
+               second[0] == DECKMARTEN_MESSAGE_TRAILING_COMMAS_ARE_NOT_SUPPORTED_IN_INLINE_TABLES && second[4] == 1 && second[5] == 2,
+           "crate mode");
+    expect(deckmarten_parse_value(table, sizeof table, 0, as_brace, events.data(), events.size(), errors.data(), errors.size()).errors == 3 &&
+               second[4] == 4 && second[5] == 4,
+           "brace mode");
+    expect(deckmarten_parse_value(table, sizeof table, 0, unknown, events.data(), events.size(), errors.data(), errors.size()).refusal ==
+               DECKMARTEN_REFUSAL_MODE,
+           "an unknown mode");
+    expect(deckmarten_parse_tokens(tokens, 2, 0, as_crate, events.data(), events.size(), errors.data(), errors.size()).errors == 1, "parse_tokens");
     expect(errors[0] == DECKMARTEN_MESSAGE_KEY_WITH_NO_VALUE, "the error of a key alone");
 
     expect(!std::strcmp(deckmarten_event_text(events[0]), "simple_key"), "event_text");

@@ -6,7 +6,7 @@
 #define PROGRAM "show"
 #include "showing.h"
 
-typedef struct deckmarten_answer parse(const uint8_t *, size_t, uint32_t, uint32_t *, size_t, uint32_t *, size_t);
+typedef struct deckmarten_answer parse(const uint8_t *, size_t, uint32_t, struct deckmarten_options, uint32_t *, size_t, uint32_t *, size_t);
 
 /* Shows one file and answers whether its run was quiet. */
 static bool show(parse *entry, const char *name) {
@@ -17,7 +17,7 @@ static bool show(parse *entry, const char *name) {
     size_t event_words = DECKMARTEN_EVENT_WORDS(count), error_words = DECKMARTEN_ERROR_WORDS(count);
     uint32_t *events = allocate(sizeof *events * event_words), *errors = allocate(sizeof *errors * error_words);
 
-    struct deckmarten_answer answer = entry(records, bytes, 0, events, event_words, errors, error_words);
+    struct deckmarten_answer answer = entry(records, bytes, 0, (struct deckmarten_options){DECKMARTEN_MODE_CRATE}, events, event_words, errors, error_words);
     printf("%s: events %zu, errors %zu\n", name, answer.events, answer.errors);
     show_refusal(answer.refusal, answer.place);
     for (size_t i = 0; i < answer.events; i++) {

@@ -33,8 +33,10 @@ static bool show(const char *name) {
     uint8_t *records = allocate(record_bytes);
     uint32_t *events = allocate(sizeof *events * event_words), *errors = allocate(sizeof *errors * error_words);
 
+    /* the same commas are blamed as by toml_parser; DECKMARTEN_MODE_BRACE looks no farther than the table's own braces */
+    struct deckmarten_options options = {DECKMARTEN_MODE_CRATE};
     struct deckmarten_text_answer answer =
-        deckmarten_parse_text(text, bytes, records, record_bytes, events, event_words, errors, error_words);
+        deckmarten_parse_text(text, bytes, options, records, record_bytes, events, event_words, errors, error_words);
     /* a text's records end in one Eof and have no adjacent Whitespace, so they fit if the run is quiet and no key is a multi-line string */
     bool fits = deckmarten_is_quiet(deckmarten_run_of_text(answer), events, event_words);
     for (size_t i = 0; i < answer.events; i++) fits &= !is_multi_line_key(events + DECKMARTEN_SIZE_EVENT * i);

@@ -1,12 +1,14 @@
 //! Batch mode: one case for each line in, one answer for each line out.
 //!
 //! In: `ENTRY BASE EVENTWORDS ERRORWORDS` and the list as `kind:length` or, for
-//! bytes as they are, `x:HEX`. Out: `refusal place events errors | words of the
+//! bytes as they are, `x:HEX`; before the entry perhaps `mode:NUMBER`, else it is crate
+//! mode. Out: `refusal place events errors | words of the
 //! written events | words of the written errors`.
 
 use std::fmt::Write as _;
 
-use crate::judge_compared;
+use crate::judged_compared;
+use crate::modes;
 use crate::numbers::ERROR_WORDS;
 use crate::records;
 use crate::Answer;
@@ -15,6 +17,7 @@ use crate::Entry;
 /// A case as it stands in a line.
 #[derive(Clone, PartialEq, Eq, Debug)]
 pub struct Case {
+    pub mode: u32,
     pub entry: Entry,
     pub base: u32,
     pub event_words: usize,
@@ -23,9 +26,10 @@ pub struct Case {
 }
 
 impl Case {
-    /// The list at an entry, its room still to be chosen.
+    /// The list at an entry in crate mode, its room still to be chosen.
     pub fn at(entry: Entry, base: u32, bytes: Vec<u8>) -> Self {
         Self {
+            mode: modes::CRATE,
             entry,
             base,
             event_words: 0,
@@ -37,6 +41,7 @@ impl Case {
 
 /// The case in a line, or what is wrong with the line.
 pub fn parse(line: &str) -> Result<Case, String> {
+    let (mode, line) = with_mode(line)?;
     let mut words = line.split_ascii_whitespace();
     let mut next = |what: &str| words.next().ok_or(format!("{what} is missing"));
     let name = next("entry")?;
@@ -45,12 +50,24 @@ pub fn parse(line: &str) -> Result<Case, String> {
     let event_words = number(next("room for events")?)?;
     let error_words = number(next("room for errors")?)?;
     Ok(Case {
+        mode,
         entry,
         base,
         event_words,
         error_words,
         bytes: bytes(words)?,
     })
+}
+
+/// The mode that a line begins with, crate mode if it does with none, and the rest.
+pub fn with_mode(line: &str) -> Result<(u32, &str), String> {
+    match line.strip_prefix("mode:") {
+        None => Ok((modes::CRATE, line)),
+        Some(rest) => {
+            let (mode, rest) = rest.split_once(' ').ok_or("a mode and no case")?;
+            Ok((number(mode)?, rest))
+        }
+    }
 }
 
 /// The bytes of words `kind:length` or `x:HEX`.
@@ -93,7 +110,9 @@ pub fn answer_line(line: &str) -> Result<String, String> {
     let case = parse(line)?;
     let mut events = vec![0; case.event_words];
     let mut errors = vec![0; case.error_words];
-    let answer = judge_compared(case.entry, case.base, &case.bytes, &mut events, &mut errors)?;
+    let judged = judged_compared(case.entry, case.base, &case.bytes)?;
+    let judged = judged.in_mode(case.mode, case.base, &case.bytes);
+    let answer = judged.answer(&mut events, &mut errors);
     Ok(render(&answer, &events, &errors))
 }
 
@@ -129,6 +148,10 @@ mod tests {
         assert_eq!(out, "8 0 0 1 | |");
         let out = answer_line("value 0 64 64 x:01000000 x:0f0000").unwrap();
         assert_eq!(out, "1 1 0 0 | |");
+        let out = answer_line("mode:1 value 0 0 64 6:1 15:1 7:1").unwrap();
+        assert_eq!(out, "7 0 3 1 | | 19 1 0 1 2 2 1");
+        let out = answer_line("mode:2 value 0 64 64 x:01000000 x:0f0000").unwrap();
+        assert_eq!(out, "15 0 0 0 | |");
     }
 
     #[test]
@@ -140,6 +163,9 @@ mod tests {
             "key 0 0 0 15",
             "key 0 0 0 x:0",
             "key -1 0 0",
+            "mode:0",
+            "mode:-1 key 0 0 0",
+            "mode: key 0 0 0",
         ] {
             assert!(answer_line(line).is_err(), "{line:?}");
         }

@@ -11,10 +11,12 @@ use crate::headers::Found;
 use crate::judged_compared;
 use crate::lexer::Token;
 use crate::lexer::TokenKind;
+use crate::modes;
 use crate::numbers::ERROR_WORDS;
 use crate::records;
 use crate::texts;
 use crate::texts::Rooms;
+use crate::texts::Text;
 use crate::wrong::spoil;
 use crate::wrong::spoil_errors;
 use crate::wrong::Wrong;
@@ -22,6 +24,8 @@ use crate::Answer;
 use crate::Entry;
 use crate::Judged;
 
+/// Of so many lists or texts that go through the modes one is asked in an unknown mode too.
+const UNKNOWN_EACH: u64 = 401;
 /// Bytes that are gathered before they are written.
 const GATHERED: usize = 800_000;
 
@@ -31,16 +35,57 @@ pub struct Feed<W> {
     out: Vec<u8>,
     cases: u64,
     wrong: Option<Wrong>,
+    /// How many were asked, where they go through the modes.
+    turn: Option<u64>,
 }
 
 impl<W: Write> Feed<W> {
-    /// Frames for `to`, with something wrong asked for if that is wanted.
+    /// Frames for `to`, with something wrong asked for if that is wanted. Each case is asked
+    /// in the mode that it has.
     pub fn new(to: W, wrong: Option<Wrong>) -> Self {
         Self {
             to,
             out: Vec::new(),
             cases: 0,
             wrong,
+            turn: None,
+        }
+    }
+
+    /// The same, whatever mode the cases have: in both if a place hangs on it, else in one of
+    /// them; and now and then in an unknown mode.
+    pub fn through_modes(self) -> Self {
+        Self {
+            turn: Some(0),
+            ..self
+        }
+    }
+
+    /// The modes in which to ask what has this mode and gives this.
+    fn modes(&mut self, own: u32, hangs_on_mode: bool) -> Vec<u32> {
+        let Some(turn) = &mut self.turn else {
+            return vec![own];
+        };
+        *turn += 1;
+        let mut modes = if hangs_on_mode {
+            vec![modes::CRATE, modes::BRACE]
+        } else {
+            // the highest bit of such products changes without a pattern
+            vec![(turn.wrapping_mul(0x9e37_79b9_7f4a_7c15) >> 63) as u32]
+        };
+        if *turn % UNKNOWN_EACH == 0 {
+            let which = (*turn / UNKNOWN_EACH) as usize % modes::UNKNOWN.len();
+            modes.push(modes::UNKNOWN[which]);
+        }
+        modes
+    }
+
+    /// The mode in which the oracle is asked: another one if that is wanted wrong.
+    fn asked(&self, mode: u32) -> u32 {
+        match self.wrong {
+            Some(Wrong::Brace) if mode == modes::BRACE => modes::CRATE,
+            Some(Wrong::Modes) if !modes::is_known(mode) => modes::CRATE,
+            _ => mode,
         }
     }
 
@@ -70,7 +115,14 @@ impl<W: Write> Feed<W> {
         for (event_words, error_words) in rooms(4 * events, ERROR_WORDS * errors) {
             case.event_words = event_words;
             case.error_words = error_words;
-            self.put_judged(&case, &judged)?;
+            for mode in self.modes(case.mode, judged.hangs_on_mode()) {
+                let judged = judged.in_mode(self.asked(mode), case.base, &case.bytes);
+                let case = Case {
+                    mode,
+                    ..case.clone()
+                };
+                self.put_judged(&case, &judged)?;
+            }
         }
         Ok(())
     }
@@ -89,22 +141,38 @@ impl<W: Write> Feed<W> {
         self.added(1)
     }
 
-    /// Adds a text in each of these rooms, which are chosen by what it needs.
+    /// Adds a text, of this mode, in each of these rooms, which are chosen by what it needs.
     pub fn put_text<R>(
         &mut self,
+        mode: u32,
         bytes: &[u8],
         rooms: impl FnOnce(Rooms) -> R,
     ) -> Result<(), String>
     where
         R: IntoIterator<Item = Rooms>,
     {
-        let mut text = texts::judge(bytes)?;
+        let text = texts::judge(bytes)?;
         let rooms: Vec<Rooms> = rooms(text.needs()).into_iter().collect();
+        for mode in self.modes(mode, text.hangs_on_mode()) {
+            self.put_text_in(mode, bytes, &text, &rooms)?;
+        }
+        Ok(())
+    }
+
+    fn put_text_in(
+        &mut self,
+        mode: u32,
+        bytes: &[u8],
+        text: &Text,
+        rooms: &[Rooms],
+    ) -> Result<(), String> {
+        let asked = self.asked(mode);
+        let mut text = text.in_mode(asked);
         if let Some(wrong) = self.wrong {
             spoil(&mut text, wrong);
         }
         let unwritten = 6 * usize::from(self.wrong == Some(Wrong::Untouched));
-        frame::push_text(&mut self.out, bytes, &text, &rooms, unwritten);
+        frame::push_text(&mut self.out, (mode, asked), bytes, &text, rooms, unwritten);
         self.added(rooms.len() as u64)
     }
 

@@ -5,8 +5,10 @@
 //! 1, a case: entry (0 to 3), base, number of bytes, words of room for events and for
 //! errors, the four words of the answer, how many event words and error words were
 //! written; then the bytes, filled up with zeros to whole words, and the written words;
+//! 7, a case in a mode: the mode, and then what a frame of sort 1 has, which is in crate
+//! mode;
 //! 2, a note to show: its number of bytes, and the bytes, filled up likewise;
-//! 3, a text: number of bytes of the text and of its records, words of its events and
+//! 3, a text: the mode, number of bytes of the text and of its records, words of its events and
 //! of its errors, number of rooms; then the text and the records, filled up likewise,
 //! and the words of events and errors, all that the text gives. Then for each room 20
 //! words: bytes for records, words for events, words for errors; what lexing answers
@@ -30,6 +32,7 @@ use crate::headers;
 use crate::headers::Found;
 use crate::headers::Header;
 use crate::headers::Indexed;
+use crate::modes;
 use crate::numbers::ERROR_WORDS;
 use crate::texts::Lexed;
 use crate::texts::Rooms;
@@ -42,7 +45,12 @@ use crate::Judged;
 /// Appends the case with its answer and what was written to its buffers.
 pub fn push_case(out: &mut Vec<u8>, case: &Case, answer: &Answer, events: &[u32], errors: &[u32]) {
     let place = ENTRIES.iter().position(|known| known.1 == case.entry);
-    push(out, 1);
+    if case.mode == modes::CRATE {
+        push(out, 1);
+    } else {
+        push(out, 7);
+        push(out, case.mode as usize);
+    }
     push(out, place.expect("each entry has a place"));
     push(out, case.base as usize);
     push(out, case.bytes.len());
@@ -62,11 +70,20 @@ pub fn push_case(out: &mut Vec<u8>, case: &Case, answer: &Answer, events: &[u32]
     }
 }
 
-/// Appends a text with what it gives in each of these rooms. Of its records so many bytes
-/// at the end are said not to be written, which is right only if they are 0.
-pub fn push_text(out: &mut Vec<u8>, bytes: &[u8], text: &Text, rooms: &[Rooms], unwritten: usize) {
+/// Appends a text of this mode with what it gives, as of the second mode, in each of these
+/// rooms: they are the same unless something wrong is wanted. Of its records so many bytes at
+/// the end are said not to be written, which is right only if they are 0.
+pub fn push_text(
+    out: &mut Vec<u8>,
+    (mode, asked): (u32, u32),
+    bytes: &[u8],
+    text: &Text,
+    rooms: &[Rooms],
+    unwritten: usize,
+) {
     let needs = text.needs();
     push(out, 3);
+    push(out, mode as usize);
     push(out, bytes.len());
     push(out, needs.record_bytes);
     push(out, needs.event_words);
@@ -88,6 +105,7 @@ pub fn push_text(out: &mut Vec<u8>, bytes: &[u8], text: &Text, rooms: &[Rooms], 
         push_rooms(out, room);
         push_in_room(
             out,
+            asked,
             text,
             needs.record_bytes.saturating_sub(unwritten),
             room,
@@ -95,12 +113,17 @@ pub fn push_text(out: &mut Vec<u8>, bytes: &[u8], text: &Text, rooms: &[Rooms], 
     }
 }
 
-fn push_in_room(out: &mut Vec<u8>, text: &Text, written: usize, room: &Rooms) {
+fn push_in_room(out: &mut Vec<u8>, mode: u32, text: &Text, written: usize, room: &Rooms) {
     let lexed = text.lexed(room.record_bytes);
     let record_bytes = if lexed.refusal == 0 { written } else { 0 };
     push_lexed(out, &lexed);
     push(out, record_bytes);
-    let parsed = text.parsed(*room);
+    let parsed = text.parsed(mode, *room);
+    let record_bytes = if parsed.lexed.refusal == modes::UNKNOWN_MODE {
+        0
+    } else {
+        record_bytes
+    };
     push_lexed(out, &parsed.lexed);
     push(out, parsed.events);
     push(out, parsed.errors);

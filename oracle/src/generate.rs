@@ -3,6 +3,7 @@
 use std::fmt::Write as _;
 
 use crate::batch::Case;
+use crate::modes;
 use crate::numbers::ERROR_WORDS;
 use crate::prng::Prng;
 use crate::records::from_pairs;
@@ -63,6 +64,7 @@ pub fn make(prng: &mut Prng, style: Style, entry: Option<Entry>, most: usize) ->
         (from_pairs(&pairs), Some(pairs))
     };
     let case = Case {
+        mode: modes::CRATE,
         entry,
         base,
         event_words,

@@ -67,6 +67,7 @@ pub fn judge_compared(
 }
 
 /// What these records give before any room is known.
+#[derive(Clone, PartialEq, Eq, Debug)]
 pub enum Judged {
     /// A refusal among 1 to 5.
     Early(records::Refusal),

@@ -24,6 +24,7 @@ pub mod headers;
 pub mod lexer;
 pub mod lines;
 pub mod listing;
+pub mod modes;
 pub mod notation;
 pub mod numbers;
 pub mod parser;

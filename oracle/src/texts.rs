@@ -8,6 +8,7 @@ use crate::grammar;
 use crate::judge::judged_tokens;
 use crate::lexer::Token;
 use crate::lexer::TokenKind;
+use crate::modes;
 use crate::numbers::ERROR_WORDS;
 use crate::records;
 use crate::records::Refusal;
@@ -56,6 +57,7 @@ pub struct Rooms {
 }
 
 /// What a text gives before any room is known.
+#[derive(Clone, PartialEq, Eq, Debug)]
 pub enum Text {
     /// A refusal that comes before any token.
     Refused(Refusal),
@@ -205,11 +207,44 @@ impl Text {
         }
     }
 
-    /// What the joined entry answers, with so much room. Records are written as by
-    /// lexing, events and errors as many as fit.
-    pub fn parsed(&self, rooms: Rooms) -> TextAnswer {
+    /// The same text in brace mode if that is its number. What an unknown mode gives is in
+    /// [`Text::parsed`], since what the text gives without one stays.
+    pub fn in_mode(&self, mode: u32) -> Text {
+        let mut text = self.clone();
+        if let Text::Tokens {
+            base,
+            records,
+            judged,
+            ..
+        } = &mut text
+        {
+            if mode == modes::BRACE {
+                *judged = judged.in_mode(mode, *base, records);
+            }
+        }
+        text
+    }
+
+    /// Whether a place may hang on the mode.
+    pub fn hangs_on_mode(&self) -> bool {
+        match self {
+            Text::Refused(_) => false,
+            Text::Tokens { judged, .. } => judged.hangs_on_mode(),
+        }
+    }
+
+    /// What the joined entry answers to the text of this mode, with so much room. Records are
+    /// written as by lexing, events and errors as many as fit; in an unknown mode nothing is.
+    pub fn parsed(&self, mode: u32, rooms: Rooms) -> TextAnswer {
         let lexed = self.lexed(rooms.record_bytes);
         match self {
+            _ if !modes::is_known(mode) => TextAnswer {
+                lexed: Lexed {
+                    refusal: modes::UNKNOWN_MODE,
+                    ..Lexed::default()
+                },
+                ..TextAnswer::default()
+            },
             Text::Tokens { judged, .. } if lexed.refusal == 0 => {
                 let answer = judged.answer_in(rooms.event_words, rooms.error_words);
                 TextAnswer {

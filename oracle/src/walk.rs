@@ -57,6 +57,8 @@ impl Entry {
 pub struct Lists {
     pub events: Vec<[u32; 4]>,
     pub errors: Vec<[u32; ERROR_WORDS]>,
+    /// Of each error how many events there were before it.
+    pub events_before: Vec<usize>,
 }
 
 impl Lists {
@@ -82,14 +84,17 @@ pub fn unchanged(entry: Entry, tokens: &[Token]) -> Lists {
         Entry::Value => parser::parse_value,
     };
     with_stack(tokens.len(), || {
-        let stop = Cell::new(None);
+        let (stop, count) = (Cell::new(None), Cell::new(0));
         let mut events = Events {
             list: Vec::new(),
+            count: &count,
             stop: &stop,
             levels: 0,
         };
         let mut errors = Errors {
             list: Vec::new(),
+            events_before: Vec::new(),
+            count: &count,
             lines: Lines::of(tokens),
             stop: &stop,
         };
@@ -97,6 +102,7 @@ pub fn unchanged(entry: Entry, tokens: &[Token]) -> Lists {
         Lists {
             events: events.list,
             errors: errors.list,
+            events_before: errors.events_before,
         }
     })
 }
@@ -111,14 +117,17 @@ pub fn counted(entry: Entry, tokens: &[Token], levels: usize) -> (Lists, Option<
         Entry::Value => parser::counted_value,
     };
     with_stack(tokens.len(), || {
-        let stop = Cell::new(None);
+        let (stop, count) = (Cell::new(None), Cell::new(0));
         let mut events = Events {
             list: Vec::new(),
+            count: &count,
             stop: &stop,
             levels,
         };
         let mut errors = Errors {
             list: Vec::new(),
+            events_before: Vec::new(),
+            count: &count,
             lines: Lines::of(tokens),
             stop: &stop,
         };
@@ -131,6 +140,7 @@ pub fn counted(entry: Entry, tokens: &[Token], levels: usize) -> (Lists, Option<
             Lists {
                 events: events.list,
                 errors: errors.list,
+                events_before: errors.events_before,
             },
             stop.get(),
         )
@@ -183,6 +193,7 @@ fn on_stack_for<R: Send>(records: usize, work: impl FnOnce() -> R + Send) -> R {
 /// Keeps events until the walk is stopped, and answers true at each open.
 struct Events<'a> {
     list: Vec<[u32; 4]>,
+    count: &'a Cell<usize>,
     stop: &'a Cell<Option<usize>>,
     levels: usize,
 }
@@ -193,6 +204,7 @@ impl Events<'_> {
             let [start, end] = numbers::span_words(span);
             self.list
                 .push([kind, numbers::encoding_number(encoding), start, end]);
+            self.count.set(self.list.len());
         }
     }
 }
@@ -259,9 +271,12 @@ impl CountingReceiver for Events<'_> {
     }
 }
 
-/// Keeps errors until the walk is stopped, each with its line.
+/// Keeps errors until the walk is stopped, each with its line, and how many events were
+/// before it.
 struct Errors<'a> {
     list: Vec<[u32; ERROR_WORDS]>,
+    events_before: Vec<usize>,
+    count: &'a Cell<usize>,
     lines: Lines,
     stop: &'a Cell<Option<usize>>,
 }
@@ -270,6 +285,7 @@ impl ErrorSink for Errors<'_> {
     fn report_error(&mut self, error: ParseError) {
         if self.stop.get().is_none() {
             self.list.push(numbers::error_words(&error, &self.lines));
+            self.events_before.push(self.count.get());
         }
     }
 }

@@ -25,12 +25,16 @@ pub enum Wrong {
     TextFits,
     /// A header of two key parts has one event less.
     Index,
+    /// In brace mode the comma of message 19 is the one of crate mode.
+    Brace,
+    /// An unknown mode is crate mode.
+    Modes,
     /// What is read from the entry of an array table says that it is none.
     Entries,
 }
 
 /// All of them, with their names.
-pub const WRONGS: [(&str, Wrong); 10] = [
+pub const WRONGS: [(&str, Wrong); 14] = [
     ("reports", Wrong::Reports),
     ("lines", Wrong::Lines),
     ("text_lines", Wrong::Lines),
@@ -41,6 +45,10 @@ pub const WRONGS: [(&str, Wrong); 10] = [
     ("text_fits", Wrong::TextFits),
     ("index", Wrong::Index),
     ("entries", Wrong::Entries),
+    ("brace", Wrong::Brace),
+    ("text_brace", Wrong::Brace),
+    ("modes", Wrong::Modes),
+    ("text_modes", Wrong::Modes),
 ];
 
 /// Makes what the text gives wrong.

@@ -1,6 +1,7 @@
 //! Texts: each row of the table in docs/DIFFERENCES.md on where the lexer's tokens are
 //! not those of TOML 1.0.0, and the refusals of texts.
 
+use oracle::modes;
 use oracle::texts;
 use oracle::texts::Rooms;
 use oracle::texts::Text;
@@ -196,7 +197,7 @@ fn the_joined_entry_and_the_verdict() {
         error_words,
     };
     let parsed = |bytes: &[u8], room: Rooms| {
-        let answer = texts::judge(bytes).unwrap().parsed(room);
+        let answer = texts::judge(bytes).unwrap().parsed(modes::CRATE, room);
         let oracle::texts::Lexed {
             refusal,
             place,

@@ -30,6 +30,11 @@ struct TextAnswer {
     errors: usize,
 }
 
+#[repr(C)]
+struct Options {
+    mode: u32,
+}
+
 extern "C" {
     fn deckmarten_lex(
         text: *const u8,
@@ -40,6 +45,7 @@ extern "C" {
     fn deckmarten_parse_text(
         text: *const u8,
         bytes: usize,
+        options: Options,
         records: *mut u8,
         record_bytes: usize,
         events: *mut u32,
@@ -51,6 +57,7 @@ extern "C" {
         records: *const u8,
         bytes: usize,
         base: u32,
+        options: Options,
         events: *mut u32,
         event_words: usize,
         errors: *mut u32,
@@ -88,13 +95,18 @@ pub fn unreported(bytes: &[u8], buffers: &mut Buffers) {
 
 #[inline(always)]
 fn document(bytes: &[u8], buffers: &mut Buffers) -> Answer {
-    let Buffers { events, errors } = buffers;
+    let Buffers {
+        mode,
+        events,
+        errors,
+    } = buffers;
     // SAFETY: each pointer has its length, and the three do not overlap: all that include/deckmarten.h asks for.
     unsafe {
         deckmarten_parse_document(
             bytes.as_ptr(),
             bytes.len(),
             0,
+            Options { mode: *mode },
             events.as_mut_ptr(),
             events.len(),
             errors.as_mut_ptr(),
@@ -108,13 +120,18 @@ fn document(bytes: &[u8], buffers: &mut Buffers) -> Answer {
 pub fn text(bytes: &[u8], buffers: &mut TextBuffers) -> Counts {
     let TextBuffers {
         records,
-        words: Buffers { events, errors },
+        words: Buffers {
+            mode,
+            events,
+            errors,
+        },
     } = buffers;
     // SAFETY: each pointer has its length, and the four do not overlap: all that include/deckmarten.h asks for.
     let answer = unsafe {
         deckmarten_parse_text(
             bytes.as_ptr(),
             bytes.len(),
+            Options { mode: *mode },
             records.as_mut_ptr(),
             records.len(),
             events.as_mut_ptr(),

@@ -18,7 +18,13 @@ pub fn find(text: &[u8], path: &str) -> Result<(), String> {
     let mut bytes = vec![0; RECORD_SIZE * records];
     let mut words = vec![0; enough_event_words(counted)];
     let mut errors = vec![0; enough_error_words(counted)];
-    let answer = deckmarten::parse_text(text, &mut bytes, &mut words, &mut errors);
+    let answer = deckmarten::parse_text(
+        text,
+        deckmarten::Options::default(),
+        &mut bytes,
+        &mut words,
+        &mut errors,
+    );
     let (events, index) = (answer.event_count(), index(&answer));
     let tables = index.headers().count();
     let places = [

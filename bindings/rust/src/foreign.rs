@@ -6,7 +6,7 @@
 //! state, so any thread may call them at any time.
 #![allow(unsafe_code)]
 
-use crate::{Entry, Token};
+use crate::{Entry, Options, Token};
 
 /// `struct deckmarten_answer` of include/deckmarten.h.
 #[derive(Clone, Copy, Debug)]
@@ -70,12 +70,20 @@ pub(crate) struct RawHeader {
     pub(crate) next: usize,
 }
 
+/// `struct deckmarten_options`.
+#[derive(Clone, Copy, Debug)]
+#[repr(C)]
+pub(crate) struct RawOptions {
+    pub(crate) mode: u32,
+}
+
 /// Declares entries as include/deckmarten.h does, each with what its list is made of: a slice is a pointer and a length.
 macro_rules! entries {
     ($($name:ident $item:ty,)+) => {
         extern "C" {
             $(fn $name(
-                list: *const $item, length: usize, base: u32, events: *mut u32, event_words: usize, errors: *mut u32, error_words: usize,
+                list: *const $item, length: usize, base: u32, options: RawOptions, events: *mut u32, event_words: usize, errors: *mut u32,
+                error_words: usize,
             ) -> RawAnswer;)+
         }
     };
@@ -85,16 +93,18 @@ entries! {
     deckmarten_parse_key u8,
     deckmarten_parse_simple_key u8,
     deckmarten_parse_value u8,
-    deckmarten_parse_tokens Token,
 }
 
 #[rustfmt::skip]
 extern "C" {
     fn deckmarten_version() -> u32;
+    fn deckmarten_parse_tokens_in(
+        mode: u32, tokens: *const Token, count: usize, base: u32, events: *mut u32, event_words: usize, errors: *mut u32, error_words: usize,
+    ) -> RawAnswer;
     fn deckmarten_lex(text: *const u8, bytes: usize, records: *mut u8, record_bytes: usize) -> RawLexed;
     fn deckmarten_parse_text(
-        text: *const u8, bytes: usize, records: *mut u8, record_bytes: usize, events: *mut u32, event_words: usize, errors: *mut u32,
-        error_words: usize,
+        text: *const u8, bytes: usize, options: RawOptions, records: *mut u8, record_bytes: usize, events: *mut u32, event_words: usize,
+        errors: *mut u32, error_words: usize,
     ) -> RawTextAnswer;
     fn deckmarten_text_fits(
         text: *const u8, bytes: usize, records: *mut u8, record_bytes: usize, events: *mut u32, event_words: usize,
@@ -107,28 +117,52 @@ extern "C" {
 }
 
 /// A function of the library over a list.
-type Function<T> = unsafe extern "C" fn(*const T, usize, u32, *mut u32, usize, *mut u32, usize) -> RawAnswer;
+type Function<T> = unsafe extern "C" fn(*const T, usize, u32, RawOptions, *mut u32, usize, *mut u32, usize) -> RawAnswer;
 
 /// Calls an entry over records.
-pub(crate) fn call(entry: Entry, records: &[u8], base: u32, events: &mut [u32], errors: &mut [u32]) -> RawAnswer {
+pub(crate) fn call(
+    entry: Entry,
+    records: &[u8],
+    base: u32,
+    options: Options,
+    events: &mut [u32],
+    errors: &mut [u32],
+) -> RawAnswer {
     let function = match entry {
         Entry::Document => deckmarten_parse_document,
         Entry::Key => deckmarten_parse_key,
         Entry::SimpleKey => deckmarten_parse_simple_key,
         Entry::Value => deckmarten_parse_value,
     };
-    lend(function, records, base, events, errors)
+    lend(function, records, base, options, events, errors)
 }
 
 /// Calls the entry over tokens.
-pub(crate) fn call_with_tokens(tokens: &[Token], base: u32, events: &mut [u32], errors: &mut [u32]) -> RawAnswer {
-    lend(deckmarten_parse_tokens, tokens, base, events, errors)
+#[rustfmt::skip]
+pub(crate) fn call_with_tokens(
+    tokens: &[Token],
+    base: u32,
+    options: Options,
+    events: &mut [u32],
+    errors: &mut [u32],
+) -> RawAnswer {
+    // SAFETY: see above
+    unsafe {
+        deckmarten_parse_tokens_in(
+            options.raw().mode, tokens.as_ptr(), tokens.len(), base, events.as_mut_ptr(), events.len(), errors.as_mut_ptr(), errors.len(),
+        )
+    }
 }
 
 /// Lends the slices to one of the functions that `entries!` declares.
-fn lend<T>(function: Function<T>, list: &[T], base: u32, events: &mut [u32], errors: &mut [u32]) -> RawAnswer {
+#[rustfmt::skip]
+fn lend<T>(function: Function<T>, list: &[T], base: u32, options: Options, events: &mut [u32], errors: &mut [u32]) -> RawAnswer {
     // SAFETY: see above; no other function comes here
-    unsafe { function(list.as_ptr(), list.len(), base, events.as_mut_ptr(), events.len(), errors.as_mut_ptr(), errors.len()) }
+    unsafe {
+        function(
+            list.as_ptr(), list.len(), base, options.raw(), events.as_mut_ptr(), events.len(), errors.as_mut_ptr(), errors.len(),
+        )
+    }
 }
 
 pub(crate) fn version() -> u32 {
@@ -142,12 +176,14 @@ pub(crate) fn lex(text: &[u8], records: &mut [u8]) -> RawLexed {
 }
 
 #[rustfmt::skip]
-pub(crate) fn parse_text(text: &[u8], records: &mut [u8], events: &mut [u32], errors: &mut [u32]) -> RawTextAnswer {
+pub(crate) fn parse_text(
+    text: &[u8], options: Options, records: &mut [u8], events: &mut [u32], errors: &mut [u32],
+) -> RawTextAnswer {
     // SAFETY: see above
     unsafe {
         deckmarten_parse_text(
-            text.as_ptr(), text.len(), records.as_mut_ptr(), records.len(), events.as_mut_ptr(), events.len(), errors.as_mut_ptr(),
-            errors.len(),
+            text.as_ptr(), text.len(), options.raw(), records.as_mut_ptr(), records.len(), events.as_mut_ptr(), events.len(),
+            errors.as_mut_ptr(), errors.len(),
         )
     }
 }

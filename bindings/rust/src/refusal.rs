@@ -6,7 +6,7 @@ use crate::numbered::numbered;
 
 numbered! {
     /// Why a text or a list was not read to its end, or not stored whole. The place is the number of a record, from 0, where nothing else is
-    /// said. `PartialRecord` to `Bytes` leave the events and the errors untouched, `TextTooLong` to `Tokens` all three buffers,
+    /// said. `PartialRecord` to `Bytes` leave the events and the errors untouched, `TextTooLong` to `Tokens` and `Mode` all three buffers,
     /// `NotQuiet` and `Index` the index.
     #[non_exhaustive]
     Refusal {
@@ -36,13 +36,15 @@ numbered! {
         NotQuiet = 12 => "the run is not quiet",
         /// Of an index; there is no place.
         Index = 13 => "the index does not fit",
+        /// The place is 0, all else in the answer 0 too, and it comes before all others. No [`Mode`](crate::Mode) gives it.
+        Mode = 15 => "an unknown mode",
     }
 }
 
 impl Refusal {
     /// The refusal of an answer; none if its number is 0.
     pub(crate) fn answered(number: u32) -> Option<Refusal> {
-        (number != 0).then(|| Refusal::from_number(number).expect("a refusal is one of 1 to 13"))
+        (number != 0).then(|| Refusal::from_number(number).expect("a refusal has a number of the list"))
     }
 }
 

@@ -5,7 +5,7 @@ use alloc::vec::Vec;
 
 use crate::limits::{enough_error_words, enough_event_words, enough_records, MAX_RECORDS, RECORD_SIZE};
 use crate::text::{parse_text, record_bytes};
-use crate::{Answer, Entry, TextAnswer};
+use crate::{Answer, Entry, Options, TextAnswer};
 
 /// Buffers that grow to what a text or a list can need, and stay for the next. By the proved bounds the refusals
 /// [`Events`](crate::Refusal::Events), [`Errors`](crate::Refusal::Errors) and [`Tokens`](crate::Refusal::Tokens) never come.
@@ -28,6 +28,7 @@ pub struct Room {
     records: Vec<u8>,
     events: Vec<u32>,
     errors: Vec<u32>,
+    options: Options,
 }
 
 /// What the buffer held is no longer needed, so a larger one takes its place: fresh zeros cost nothing until they are touched.
@@ -41,6 +42,11 @@ impl Room {
     /// Buffers of no size yet.
     pub fn new() -> Room {
         Room::default()
+    }
+
+    /// The same, for runs with these options.
+    pub fn with_options(options: Options) -> Room {
+        Room { options, ..Room::default() }
     }
 
     /// Makes room for the events and errors of so many records. A longer list is refused before anything is stored.
@@ -67,7 +73,7 @@ impl Room {
     pub fn parse_text(&mut self, text: &[u8]) -> TextAnswer<'_> {
         grow(&mut self.records, record_bytes(text));
         self.grow_for(enough_records(text.len()));
-        parse_text(text, &mut self.records, &mut self.events, &mut self.errors)
+        parse_text(text, self.options, &mut self.records, &mut self.events, &mut self.errors)
     }
 
     /// Reads records, as [`Entry::parse`] does, with room for all events and errors.
@@ -80,6 +86,6 @@ impl Room {
     /// ```
     pub fn parse(&mut self, entry: Entry, records: &[u8], base: u32) -> Answer<'_> {
         self.grow_for(records.len() / RECORD_SIZE);
-        entry.parse(records, base, &mut self.events, &mut self.errors)
+        entry.parse(records, base, self.options, &mut self.events, &mut self.errors)
     }
 }

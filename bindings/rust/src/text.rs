@@ -4,7 +4,7 @@ use alloc::vec;
 
 use crate::foreign;
 use crate::limits::{enough_records, MAX_BYTES, RECORD_SIZE};
-use crate::{Records, Refused, Span, TextAnswer, Token};
+use crate::{Options, Records, Refused, Span, TextAnswer, Token};
 
 /// Bytes that the records of this text may need. A text that is too long is refused before anything is stored.
 pub(crate) fn record_bytes(text: &[u8]) -> usize {
@@ -73,15 +73,21 @@ pub fn lex(text: &[u8]) -> Result<Lexed, Refused> {
 /// has the buffers at hand.
 ///
 /// ```
-/// use deckmarten::{parse_text, Refusal};
+/// use deckmarten::{parse_text, Options, Refusal};
 ///
 /// // `a`, `=`, `1` and the end are four records; here is room for three
 /// let (mut records, mut events, mut errors) = ([0; 18], [0; 12], [0; 0]);
-/// let answer = parse_text(b"a=1", &mut records, &mut events, &mut errors);
+/// let answer = parse_text(b"a=1", Options::default(), &mut records, &mut events, &mut errors);
 /// assert_eq!(answer.refusal(), Some(Refusal::Tokens));
 /// assert!(!answer.is_quiet());
 /// ```
-pub fn parse_text<'b>(text: &[u8], records: &'b mut [u8], events: &'b mut [u32], errors: &'b mut [u32]) -> TextAnswer<'b> {
-    let raw = foreign::parse_text(text, records, events, errors);
+pub fn parse_text<'b>(
+    text: &[u8],
+    options: Options,
+    records: &'b mut [u8],
+    events: &'b mut [u32],
+    errors: &'b mut [u32],
+) -> TextAnswer<'b> {
+    let raw = foreign::parse_text(text, options, records, events, errors);
     TextAnswer::new(raw, records, events, errors)
 }

@@ -4,7 +4,9 @@ mod common;
 
 use common::records;
 use deckmarten::limits::{enough_error_words, enough_event_words, ERROR_SIZE, MAX_DEPTH, MAX_RECORDS};
-use deckmarten::{parse_document, parse_tokens, Encoding, Entry, EventKind, Expected, Message, Refusal, Room, TokenKind};
+use deckmarten::{
+    parse_document, parse_tokens, Encoding, Entry, EventKind, Expected, Message, Options, Refusal, Room, TokenKind,
+};
 
 /// Refusal, place and counts of the bytes as a document.
 fn answered(bytes: &[u8], base: u32) -> (Option<Refusal>, usize, usize, usize) {
@@ -35,10 +37,10 @@ fn wrong_lists_are_refused_with_their_place() {
 #[test]
 fn words_that_hold_no_entry_stay() {
     let (mut events, mut errors) = ([7; 15], [7; 13]);
-    assert_eq!(parse_document(&[1], 0, &mut events, &mut errors).refusal(), Some(Refusal::PartialRecord));
+    assert_eq!(parse_document(&[1], 0, Options::default(), &mut events, &mut errors).refusal(), Some(Refusal::PartialRecord));
     assert_eq!((events, errors), ([7; 15], [7; 13]));
     let list = records("[[a]\n$");
-    let answer = parse_document(list.as_bytes(), 0, &mut events, &mut errors);
+    let answer = parse_document(list.as_bytes(), 0, Options::default(), &mut events, &mut errors);
     assert_eq!((answer.events().len(), answer.errors().len()), (3, 1));
     assert_eq!(events, [3, 0, 0, 2, 5, 0, 2, 3, 16, 0, 4, 5, 7, 7, 7]);
     assert_eq!(errors, [1, 2, 0, 4, 4, 4, 1, 7, 7, 7, 7, 7, 7]);
@@ -69,7 +71,7 @@ fn a_room_serves_many_lists() {
     for text in ["a=1\nb=2\n$", "$", "[[a]\n$", "a=1\nb=2\n$"] {
         let list = records(text);
         let (mut events, mut errors) = (vec![0; enough_event_words(list.count())], vec![0; enough_error_words(list.count())]);
-        let alone = parse_document(list.as_bytes(), 0, &mut events, &mut errors);
+        let alone = parse_document(list.as_bytes(), 0, Options::default(), &mut events, &mut errors);
         let answer = room.parse(Entry::Document, list.as_bytes(), 0);
         assert!(answer.events().eq(alone.events()) && answer.errors().eq(alone.errors()), "{text:?}");
         assert_eq!(answer.is_quiet(), !text.starts_with("[["));
@@ -94,8 +96,8 @@ fn tokens_are_read_as_their_records() {
     for tokens in lists {
         let records: Records = tokens.iter().copied().collect();
         let (mut events, mut errors, mut other_events, mut other_errors) = ([7; 20], [7; 20], [7; 20], [7; 20]);
-        let answer = parse_tokens(tokens, 5, &mut events, &mut errors);
-        let other = parse_document(records.as_bytes(), 5, &mut other_events, &mut other_errors);
+        let answer = parse_tokens(tokens, 5, Options::default(), &mut events, &mut errors);
+        let other = parse_document(records.as_bytes(), 5, Options::default(), &mut other_events, &mut other_errors);
         assert_eq!(format!("{answer:?}"), format!("{other:?}"));
         refusals.push(answer.refusal());
         assert_eq!((events, errors), (other_events, other_errors));
@@ -123,16 +125,18 @@ fn threads_do_not_disturb_one_another() {
 #[test]
 fn numbers_go_both_ways() {
     macro_rules! both_ways {
-        ($($name:ident $count:literal),+) => {$(
-            assert_eq!($name::ALL.len(), $count);
-            for number in 0..40 {
+        ($($name:ident [$($numbers:expr),+],)+) => {$(
+            assert_eq!($name::ALL.len(), 0 $(+ $numbers.count())+);
+            for number in 0..140 {
                 let case = $name::from_number(number);
-                assert_eq!(case.is_some(), (1..=$count).contains(&number));
+                assert_eq!(case.is_some(), [$($numbers),+].iter().any(|numbers| numbers.contains(&number)));
                 assert_eq!(case.map_or(number, $name::number), number);
             }
         )+};
     }
-    both_ways!(TokenKind 16, EventKind 17, Encoding 4, Message 29, Expected 14, Refusal 13);
+    both_ways! {
+        TokenKind [1..=16], EventKind [1..=17], Encoding [1..=4], Message [1..=29], Expected [1..=14], Refusal [1..=13, 15..=15],
+    }
     assert_eq!(Refusal::Depth.to_string(), "a 65th array or inline table would be open");
     assert_eq!(format!("{:>12}|{}", TokenKind::Dot, EventKind::Scalar), "         `.`|value");
 }

@@ -1,7 +1,9 @@
 //! From a text: its tokens, its events and the verdict, with and without a byte order mark; what is refused, and where; what stays untouched.
 
 use deckmarten::limits::{enough_error_words, enough_event_words, enough_records, MAX_BYTES, MAX_RECORDS, RECORD_SIZE};
-use deckmarten::{lex, parse_document, parse_text, text_fits, EventKind, Message, Refusal, Refused, Room, TokenKind, Verdict};
+use deckmarten::{
+    lex, parse_document, parse_text, text_fits, EventKind, Message, Options, Refusal, Refused, Room, TokenKind, Verdict,
+};
 
 const JOB: &str = "[jobs.main]\nledger = \"main.db\" # nightly\n";
 
@@ -136,13 +138,19 @@ fn every_room_is_filled_as_far_as_it_goes() {
                 let (mut records, mut events, mut errors) = (vec![7; record_bytes], vec![7; event_words], vec![7; error_words]);
                 let (mut wanted_records, mut wanted_events, mut wanted_errors) =
                     (records.clone(), events.clone(), errors.clone());
-                let answer = parse_text(text.as_bytes(), &mut records, &mut events, &mut errors);
+                let answer = parse_text(text.as_bytes(), Options::default(), &mut records, &mut events, &mut errors);
                 if record_bytes / RECORD_SIZE < count {
                     assert_eq!((answer.refusal(), answer.place(), answer.base()), (Some(Refusal::Tokens), 0, 0));
                     assert_eq!((answer.record_count(), answer.event_count(), answer.error_count()), (count, 0, 0));
                     assert!(answer.records().is_empty());
                 } else {
-                    let wanted = parse_document(lexed.records.as_bytes(), lexed.base, &mut wanted_events, &mut wanted_errors);
+                    let wanted = parse_document(
+                        lexed.records.as_bytes(),
+                        lexed.base,
+                        Options::default(),
+                        &mut wanted_events,
+                        &mut wanted_errors,
+                    );
                     assert_eq!(format!("{:?}", *answer), format!("{wanted:?}"));
                     assert_eq!((answer.base(), answer.record_count()), (lexed.base, count));
                     wanted_records[..RECORD_SIZE * count].copy_from_slice(lexed.records.as_bytes());
@@ -160,7 +168,7 @@ fn a_room_serves_texts_and_lists_in_turn() {
         let wanted = lex(text.as_bytes()).unwrap();
         let (mut events, mut errors) =
             (vec![0; enough_event_words(wanted.records.count())], vec![0; enough_error_words(wanted.records.count())]);
-        let alone = parse_document(wanted.records.as_bytes(), wanted.base, &mut events, &mut errors);
+        let alone = parse_document(wanted.records.as_bytes(), wanted.base, Options::default(), &mut events, &mut errors);
         let answer = room.parse_text(text.as_bytes());
         assert!(answer.events().eq(alone.events()) && answer.errors().eq(alone.errors()), "{text:?}");
         let answer = room.parse(deckmarten::Entry::Document, wanted.records.as_bytes(), wanted.base);

@@ -109,7 +109,7 @@ fn a_run_that_is_not_quiet_has_no_index() {
     // refused texts, also where some events fit
     assert_eq!(room.parse_text(b"[a]\n\xff").index().unwrap_err(), Refusal::NotQuiet);
     let (mut records, mut events, mut errors) = ([0; 60], [0; 8], [0; 0]);
-    let answer = deckmarten::parse_text(b"[a]\n", &mut records, &mut events, &mut errors);
+    let answer = deckmarten::parse_text(b"[a]\n", deckmarten::Options::default(), &mut records, &mut events, &mut errors);
     assert_eq!((answer.refusal(), answer.index().unwrap_err()), (Some(Refusal::Events), Refusal::NotQuiet));
 }
 

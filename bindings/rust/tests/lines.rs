@@ -1,7 +1,7 @@
 //! The lines of errors, where they may surprise.
 
 use deckmarten::limits::ERROR_SIZE;
-use deckmarten::{parse_key, parse_value, Records, Room, Token, TokenKind};
+use deckmarten::{parse_key, parse_value, Options, Records, Room, Token, TokenKind};
 
 /// Message, unexpected place and line of each error of a text.
 fn errors(text: &str) -> Vec<(u32, String, u32)> {
@@ -53,7 +53,7 @@ fn every_line_end_counts_once_and_none_inside_a_string() {
 #[test]
 fn nothing_is_on_line_1_whatever_the_base() {
     let mut errors = [7; ERROR_SIZE];
-    let answer = parse_key(&[], 3, &mut [], &mut errors);
+    let answer = parse_key(&[], 3, Options::default(), &mut [], &mut errors);
     assert_eq!((answer.refusal(), answer.error_count()), (None, 1));
     assert_eq!(errors, [4, 4, 0, 0, 0, 0, 1]);
 }
@@ -63,7 +63,7 @@ fn the_shortest_list_whose_lines_fall() {
     use TokenKind::{LeftCurlyBracket, Newline};
     let list: Records = [LeftCurlyBracket, Newline, Newline].map(|kind| Token::new(kind, 1)).into_iter().collect();
     let (mut events, mut errors) = ([0; 40], [0; 10 * ERROR_SIZE]);
-    let answer = parse_value(list.as_bytes(), 0, &mut events, &mut errors);
+    let answer = parse_value(list.as_bytes(), 0, Options::default(), &mut events, &mut errors);
     let lines: Vec<_> = answer.errors().map(|error| (error.message.number(), error.line)).collect();
     assert_eq!(lines, [(13, 1), (13, 2), (14, 1)]);
 }
@@ -74,7 +74,7 @@ fn an_error_that_does_not_fit_is_not_begun() {
     for words in 0..3 * ERROR_SIZE {
         let mut errors = vec![7; words];
         let (mut records, mut events) = ([0; 60], [0; 80]);
-        let answer = deckmarten::parse_text(b"x=[[\n", &mut records, &mut events, &mut errors);
+        let answer = deckmarten::parse_text(b"x=[[\n", Options::default(), &mut records, &mut events, &mut errors);
         assert_eq!(answer.error_count(), 2);
         let held = (words / ERROR_SIZE).min(2);
         assert_eq!(answer.errors().map(|error| error.line).collect::<Vec<_>>(), [2, 1][..held]);

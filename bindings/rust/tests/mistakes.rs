@@ -6,7 +6,8 @@ use common::records;
 use deckmarten::limits::ERROR_SIZE;
 use deckmarten::TokenKind::{Atom, Comment, Eof, Equals, Newline, Whitespace};
 use deckmarten::{
-    parse_key, parse_simple_key, parse_value, Answer, Encoding, Entry, EventKind, Expected, Message, Records, Room, Span, Token,
+    parse_key, parse_simple_key, parse_value, Answer, Encoding, Entry, EventKind, Expected, Message, Options, Records, Room,
+    Span, Token,
 };
 
 #[test]
@@ -56,14 +57,14 @@ fn places_start_at_base() {
 fn keys_and_values_have_entries_of_their_own() {
     let (mut events, mut errors) = ([0; 40], [0; 10 * ERROR_SIZE]);
     let kinds = |answer: Answer| answer.events().map(|event| event.kind).collect::<Vec<_>>();
-    let key = parse_key(records("a.'").as_bytes(), 0, &mut events, &mut errors);
+    let key = parse_key(records("a.'").as_bytes(), 0, Options::default(), &mut events, &mut errors);
     assert!(key.is_quiet());
     assert_eq!(key.events().last().unwrap().encoding, Some(Encoding::LiteralString));
     assert_eq!(kinds(key), [EventKind::SimpleKey, EventKind::KeySep, EventKind::SimpleKey]);
-    let part = parse_simple_key(records("B").as_bytes(), 0, &mut events, &mut errors);
+    let part = parse_simple_key(records("B").as_bytes(), 0, Options::default(), &mut events, &mut errors);
     let error = part.errors().next().unwrap();
     assert_eq!((error.message, error.expected.number()), (Message::InvalidKey, 14));
-    let value = parse_value(records("[1,}").as_bytes(), 0, &mut events, &mut errors);
+    let value = parse_value(records("[1,}").as_bytes(), 0, Options::default(), &mut events, &mut errors);
     assert_eq!(kinds(value)[3..], [EventKind::InlineTableOpen, EventKind::InlineTableClose, EventKind::ArrayClose]);
     let error = value.errors().next().unwrap();
     assert_eq!((error.expected, error.context), (Expected::LeftCurlyBracket, Span { start: 3, end: 4 }));

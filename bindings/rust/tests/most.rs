@@ -5,9 +5,10 @@ mod common;
 
 use common::records;
 use deckmarten::limits::{
-    enough_error_words, enough_event_words, enough_records, enough_text_error_words, enough_text_event_words, ERROR_SIZE, EVENT_SIZE, MAX_RECORDS, RECORD_SIZE,
+    enough_error_words, enough_event_words, enough_records, enough_text_error_words, enough_text_event_words, ERROR_SIZE,
+    EVENT_SIZE, MAX_RECORDS, RECORD_SIZE,
 };
-use deckmarten::{parse_text, Entry, Refusal};
+use deckmarten::{parse_text, Entry, Options, Refusal};
 
 /// `[` and then `}`.
 fn bracketed(n: usize) -> String {
@@ -55,11 +56,14 @@ fn events() {
         let mut errors = vec![0; enough_error_words(n)];
         let mut events = vec![0; EVENT_SIZE * most];
         assert!(most <= 3 * n && events.len() <= enough_event_words(n));
-        let answer = entry.parse(list.as_bytes(), 0, &mut events, &mut errors);
+        let answer = entry.parse(list.as_bytes(), 0, Options::default(), &mut events, &mut errors);
         assert_eq!((list.count(), answer.event_count(), answer.refusal()), (n, most, None), "{entry:?}, {n} tokens");
         if most > 0 {
             events.truncate(EVENT_SIZE * most - 1);
-            assert_eq!(entry.parse(list.as_bytes(), 0, &mut events, &mut errors).refusal(), Some(Refusal::Events));
+            assert_eq!(
+                entry.parse(list.as_bytes(), 0, Options::default(), &mut events, &mut errors).refusal(),
+                Some(Refusal::Events)
+            );
         }
     }
 }
@@ -72,11 +76,14 @@ fn errors() {
         let mut events = vec![0; enough_event_words(n)];
         let mut errors = vec![0; ERROR_SIZE * most];
         assert!(most <= 2 * n + 1 && errors.len() <= enough_error_words(n));
-        let answer = entry.parse(list.as_bytes(), 0, &mut events, &mut errors);
+        let answer = entry.parse(list.as_bytes(), 0, Options::default(), &mut events, &mut errors);
         assert_eq!((list.count(), answer.error_count(), answer.refusal()), (n, most, None), "{entry:?}, {n} tokens");
         if most > 0 {
             errors.truncate(ERROR_SIZE * most - 1);
-            assert_eq!(entry.parse(list.as_bytes(), 0, &mut events, &mut errors).refusal(), Some(Refusal::Errors));
+            assert_eq!(
+                entry.parse(list.as_bytes(), 0, Options::default(), &mut events, &mut errors).refusal(),
+                Some(Refusal::Errors)
+            );
         }
     }
 }
@@ -89,7 +96,7 @@ fn texts() {
             let mut list = vec![0; RECORD_SIZE * enough_records(n)];
             let mut events = vec![0; enough_text_event_words(n)];
             let mut errors = vec![0; enough_text_error_words(n)];
-            let answer = parse_text(text.as_bytes(), &mut list, &mut events, &mut errors);
+            let answer = parse_text(text.as_bytes(), Options::default(), &mut list, &mut events, &mut errors);
             assert_eq!((answer.refusal(), text.len()), (None, n));
         }
     }

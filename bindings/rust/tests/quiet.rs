@@ -3,7 +3,7 @@
 mod common;
 
 use common::records;
-use deckmarten::{fits, is_regular, parse_document, Entry, Refusal, Refused, Room, Verdict};
+use deckmarten::{fits, is_regular, parse_document, Entry, Options, Refusal, Refused, Room, Verdict};
 
 #[test]
 fn documents_fit() {
@@ -53,7 +53,7 @@ fn too_little_room_is_never_quiet() {
     let wanted = 8;
     for words in 0..=4 * wanted {
         let mut events = vec![7; words];
-        let answer = parse_document(records.as_bytes(), 0, &mut events, &mut []);
+        let answer = parse_document(records.as_bytes(), 0, Options::default(), &mut events, &mut []);
         assert_eq!((answer.event_count(), answer.events().len()), (wanted, words / 4));
         assert_eq!(answer.refusal(), (words < 4 * wanted).then_some(Refusal::Events));
         assert_eq!(answer.is_quiet(), words == 4 * wanted);
@@ -64,7 +64,7 @@ fn too_little_room_is_never_quiet() {
 fn an_error_that_does_not_fit_is_not_quiet() {
     let records = records("a\n$");
     let (mut events, mut errors) = ([0; 8], [0; 5]);
-    let answer = parse_document(records.as_bytes(), 0, &mut events, &mut errors);
+    let answer = parse_document(records.as_bytes(), 0, Options::default(), &mut events, &mut errors);
     assert_eq!(answer.refusal(), Some(Refusal::Errors));
     assert_eq!((answer.error_count(), answer.errors().len(), answer.is_quiet()), (1, 0, false));
 }

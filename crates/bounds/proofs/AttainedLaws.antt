@@ -17,6 +17,7 @@ use Rattle.token.specs.Writing.{recordsOf}
 use Rattle.token.specs.WritingLaws.{records-length}
 use Rattle.token.specs.Laid.{Spans, Laid, laidNone, laidToken, endOf}
 use Rattle.token.specs.LaidLaws.{read-back, pass-back}
+use Rattle.rules.specs.declared.options.Options.{Options}
 use Rattle.rules.specs.Words.{eventsOf, errorsOf}
 use Rattle.rules.specs.Entries.{Entry, documentEntry, keyEntry, simpleKeyEntry, valueEntry, parse}
 use Rattle.rules.specs.Answer.{outcome}
@@ -93,18 +94,18 @@ module _ (n : ℕ) (ts : List Tok) (l : Lies 0 n ts) (size : length ts ≡ n) (f
   read : allTokens (recordsOf ts) 0 ≡ ts
   read = read-back (l .laid) short
 
-pub events-attained : (e : Entry) (n : ℕ) (events errors : List ℕ) → n ≤ maxRecords → (count (recordsOf (eventful e n)) ≡ n) × (outcome e (recordsOf (eventful e n)) 0 events errors .answer .events ≡ mostEvents e n)
-events-attained e n events errors few =
+pub events-attained : (options : Options) (e : Entry) (n : ℕ) (events errors : List ℕ) → n ≤ maxRecords → (count (recordsOf (eventful e n)) ≡ n) × (outcome options e (recordsOf (eventful e n)) 0 events errors .answer .events ≡ mostEvents e n)
+events-attained options e n events errors few =
     let l = eventful-lies e n in
     let s = eventful-length e n in (
       counted n (eventful e n) l s few,
-      counted-events e (recordsOf (eventful e n)) 0 events errors (passes n (eventful e n) l s few) ∙ ap (λ (ts : List Tok). length (eventsOf ts (parse e ts .items))) (read n (eventful e n) l s few) ∙ eventful-most e n,
+      counted-events options e (recordsOf (eventful e n)) 0 events errors (passes n (eventful e n) l s few) ∙ ap (λ (ts : List Tok). length (eventsOf ts (parse e ts .items))) (read n (eventful e n) l s few) ∙ eventful-most e n,
     )
 
-pub errors-attained : (e : Entry) (n : ℕ) (events errors : List ℕ) → n ≤ maxRecords → (count (recordsOf (errorful e n)) ≡ n) × (outcome e (recordsOf (errorful e n)) 0 events errors .answer .errors ≡ mostErrors e n)
-errors-attained e n events errors few =
+pub errors-attained : (options : Options) (e : Entry) (n : ℕ) (events errors : List ℕ) → n ≤ maxRecords → (count (recordsOf (errorful e n)) ≡ n) × (outcome options e (recordsOf (errorful e n)) 0 events errors .answer .errors ≡ mostErrors e n)
+errors-attained options e n events errors few =
     let l = errorful-lies e n in
     let s = errorful-length e n in (
       counted n (errorful e n) l s few,
-      counted-errors e (recordsOf (errorful e n)) 0 events errors (passes n (errorful e n) l s few) ∙ ap (λ (ts : List Tok). length (errorsOf ts (parse e ts .items))) (read n (errorful e n) l s few) ∙ errorful-most e n,
+      counted-errors options e (recordsOf (errorful e n)) 0 events errors (passes n (errorful e n) l s few) ∙ ap (λ (ts : List Tok). length (errorsOf (options .mode) ts (parse e ts .items))) (read n (errorful e n) l s few) ∙ errorful-most (options .mode) e n,
     )

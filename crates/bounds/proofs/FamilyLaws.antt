@@ -12,6 +12,7 @@ use Rattle.rules.specs.declared.array.ArrayState.{ArrayState}
 use Rattle.rules.specs.Out.{Place, span, Item}
 use Rattle.rules.specs.Limits.{maxDepth}
 use Rattle.rules.specs.Messages as message
+use Rattle.rules.specs.declared.options.Mode.{Mode}
 use Rattle.rules.specs.Words.{eventsOf, errorsOf}
 use Rattle.rules.specs.Turns.{turns}
 use Rattle.rules.specs.Skipping.{ignoreToNewline, wsCommentNewline, leftover, eof}
@@ -66,8 +67,8 @@ errorful-length valueEntry (suc (suc (suc n))) = ap suc (run-length RightCurlyBr
 abbrev eventsIn : List Tok → List Item → ℕ
 eventsIn all is = length (eventsOf all is)
 
-abbrev errorsIn : List Tok → List Item → ℕ
-errorsIn all is = length (errorsOf all is)
+abbrev errorsIn : Mode → List Tok → List Item → ℕ
+errorsIn mode all is = length (errorsOf mode all is)
 
 -- `}` in an array where a comma is wanted, n times and then the end
 module _ (all : List Tok) (head : Place) (nest : Nest) where
@@ -78,12 +79,12 @@ module _ (all : List Tok) (head : Place) (nest : Nest) where
   braces-events (suc n) p zero h = absurd (not-suc-le-zero h)
   braces-events (suc n) p (suc f) h = omega (arith, braces-events n (suc p) f (le-of-suc-le-suc h))
 
-  braces-errors : (n p f : ℕ) → n ≤ f → errorsIn all (turns (arrayTurn head nest) f ArrayState.NeedsComma (run RightCurlyBracket n p) .items) ≡ 2 * n + 1
+  braces-errors : (mode : Mode) (n p f : ℕ) → n ≤ f → errorsIn mode all (turns (arrayTurn head nest) f ArrayState.NeedsComma (run RightCurlyBracket n p) .items) ≡ 2 * n + 1
   unfolding turns
-  braces-errors zero p zero h = refl
-  braces-errors zero p (suc f) h = refl
-  braces-errors (suc n) p zero h = absurd (not-suc-le-zero h)
-  braces-errors (suc n) p (suc f) h = omega (arith, braces-errors n (suc p) f (le-of-suc-le-suc h))
+  braces-errors mode zero p zero h = refl
+  braces-errors mode zero p (suc f) h = refl
+  braces-errors mode (suc n) p zero h = absurd (not-suc-le-zero h)
+  braces-errors mode (suc n) p (suc f) h = omega (arith, braces-errors mode n (suc p) f (le-of-suc-le-suc h))
 
   braces-rest : (n p f : ℕ) → n ≤ f → turns (arrayTurn head nest) f ArrayState.NeedsComma (run RightCurlyBracket n p) .rest ≡ []
   unfolding turns
@@ -136,9 +137,9 @@ module _ (all : List Tok) (n p : ℕ) where
   unfolding turns onOpen
   bracketed-events = ap (λ (m : ℕ). suc (suc (suc m))) (braces-events all (span p (suc p)) (onOpen 63) (suc n) (suc (suc p)) (length left) enough) ∙ three-more n
 
-  bracketed-errors : errorsIn all (value maxDepth (bracketed (suc (suc n)) p) .items) ≡ 2 * n + 4
+  bracketed-errors : (mode : Mode) → errorsIn mode all (value maxDepth (bracketed (suc (suc n)) p) .items) ≡ 2 * n + 4
   unfolding turns onOpen
-  bracketed-errors = ap suc (braces-errors all (span p (suc p)) (onOpen 63) (suc n) (suc (suc p)) (length left) enough) ∙ one-more n
+  bracketed-errors mode = ap suc (braces-errors all (span p (suc p)) (onOpen 63) mode (suc n) (suc (suc p)) (length left) enough) ∙ one-more n
 
   value-family : (count : List Item → ℕ) → count (parse valueEntry (bracketed (suc (suc n)) p) .items) ≡ count (value maxDepth (bracketed (suc (suc n)) p) .items)
   value-family count = none-left count (value maxDepth (bracketed (suc (suc n)) p) .items) (value maxDepth (bracketed (suc (suc n)) p) .rest) bracketed-rest
@@ -150,10 +151,10 @@ module _ (all : List Tok) (n p : ℕ) where
       (line-ended (eventsIn all) (value maxDepth (bracketed (suc (suc n)) p) .items) (value maxDepth (bracketed (suc (suc n)) p) .rest) (length (bracketed (suc (suc n)) p)) bracketed-rest ∙ bracketed-events)
       ∙ two-more n
 
-  document-errors : errorsIn all (parse documentEntry (tok Equals 0 1 ∷ bracketed (suc (suc n)) p) .items) ≡ 2 * n + 4
+  document-errors : (mode : Mode) → errorsIn mode all (parse documentEntry (tok Equals 0 1 ∷ bracketed (suc (suc n)) p) .items) ≡ 2 * n + 4
   unfolding turns
-  document-errors =
-      line-ended (errorsIn all) (value maxDepth (bracketed (suc (suc n)) p) .items) (value maxDepth (bracketed (suc (suc n)) p) .rest) (length (bracketed (suc (suc n)) p)) bracketed-rest ∙ bracketed-errors
+  document-errors mode =
+      line-ended (errorsIn mode all) (value maxDepth (bracketed (suc (suc n)) p) .items) (value maxDepth (bracketed (suc (suc n)) p) .rest) (length (bracketed (suc (suc n)) p)) bracketed-rest ∙ bracketed-errors mode
 
 -- dots as a key
 module _ (all : List Tok) (m : ℕ) where
@@ -161,9 +162,9 @@ module _ (all : List Tok) (m : ℕ) where
   dots-events zero p = refl
   dots-events (suc n) p = omega (arith, dots-events n (suc p))
 
-  dots-errors : (n p : ℕ) → errorsIn all (key m (run Dot n p) .items) ≡ 1
-  dots-errors zero p = refl
-  dots-errors (suc n) p = dots-errors n (suc p)
+  dots-errors : (mode : Mode) (n p : ℕ) → errorsIn mode all (key m (run Dot n p) .items) ≡ 1
+  dots-errors mode zero p = refl
+  dots-errors mode (suc n) p = dots-errors mode n (suc p)
 
   dots-rest : (n p : ℕ) → key m (run Dot n p) .rest ≡ []
   dots-rest zero p = refl
@@ -180,17 +181,17 @@ alone-events all (suc zero) p = refl
 alone-events all (suc (suc n)) p = omega (arith, leftover-events all n (suc (suc p)))
 
 -- comments with content behind them
-comments-errors : (all : List Tok) (n p : ℕ) → errorsIn all (ignoreToNewline (commented (suc (suc n)) p) .items ++ eof (ignoreToNewline (commented (suc (suc n)) p) .rest) .items) ≡ suc (suc n) / 2
-comments-errors all zero p = refl
-comments-errors all (suc zero) p = refl
-comments-errors all (suc (suc n)) p = omega (arith, comments-errors all n (suc (suc p)))
+comments-errors : (mode : Mode) (all : List Tok) (n p : ℕ) → errorsIn mode all (ignoreToNewline (commented (suc (suc n)) p) .items ++ eof (ignoreToNewline (commented (suc (suc n)) p) .rest) .items) ≡ suc (suc n) / 2
+comments-errors mode all zero p = refl
+comments-errors mode all (suc zero) p = refl
+comments-errors mode all (suc (suc n)) p = omega (arith, comments-errors mode all n (suc (suc p)))
 
-alone-errors : (all : List Tok) (n p : ℕ) → errorsIn all (parse simpleKeyEntry (commented n p) .items) ≡ n / 2 + 1
-alone-errors all zero p = refl
-alone-errors all (suc zero) p = refl
-alone-errors all (suc (suc zero)) p = refl
-alone-errors all (suc (suc (suc zero))) p = refl
-alone-errors all (suc (suc (suc (suc n)))) p = omega (arith, comments-errors all n (suc (suc p)))
+alone-errors : (mode : Mode) (all : List Tok) (n p : ℕ) → errorsIn mode all (parse simpleKeyEntry (commented n p) .items) ≡ n / 2 + 1
+alone-errors mode all zero p = refl
+alone-errors mode all (suc zero) p = refl
+alone-errors mode all (suc (suc zero)) p = refl
+alone-errors mode all (suc (suc (suc zero))) p = refl
+alone-errors mode all (suc (suc (suc (suc n)))) p = omega (arith, comments-errors mode all n (suc (suc p)))
 
 -- each entry's lists give the most
 pub eventful-most : (e : Entry) (n : ℕ) → length (eventsOf (eventful e n) (parse e (eventful e n) .items)) ≡ mostEvents e n
@@ -207,16 +208,16 @@ eventful-most valueEntry (suc zero) = refl
 eventful-most valueEntry (suc (suc zero)) = refl
 eventful-most valueEntry (suc (suc (suc n))) = value-family (bracketed (suc (suc n)) 0) n 0 (eventsIn (bracketed (suc (suc n)) 0)) ∙ bracketed-events (bracketed (suc (suc n)) 0) n 0
 
-pub errorful-most : (e : Entry) (n : ℕ) → length (errorsOf (errorful e n) (parse e (errorful e n) .items)) ≡ mostErrors e n
+pub errorful-most : (mode : Mode) (e : Entry) (n : ℕ) → length (errorsOf mode (errorful e n) (parse e (errorful e n) .items)) ≡ mostErrors e n
 unfolding turns onOpen
-errorful-most documentEntry zero = refl
-errorful-most documentEntry (suc zero) = refl
-errorful-most documentEntry (suc (suc zero)) = refl
-errorful-most documentEntry (suc (suc (suc zero))) = refl
-errorful-most documentEntry (suc (suc (suc (suc n)))) = document-errors (errorful documentEntry (suc (suc (suc (suc n))))) n 1
-errorful-most keyEntry n = none-left (errorsIn (run Dot n 0)) (key message.invalidKey (run Dot n 0) .items) (key message.invalidKey (run Dot n 0) .rest) (dots-rest (run Dot n 0) message.invalidKey n 0) ∙ dots-errors (run Dot n 0) message.invalidKey n 0
-errorful-most simpleKeyEntry n = alone-errors (commented n 0) n 0
-errorful-most valueEntry zero = refl
-errorful-most valueEntry (suc zero) = refl
-errorful-most valueEntry (suc (suc zero)) = refl
-errorful-most valueEntry (suc (suc (suc n))) = value-family (bracketed (suc (suc n)) 0) n 0 (errorsIn (bracketed (suc (suc n)) 0)) ∙ bracketed-errors (bracketed (suc (suc n)) 0) n 0
+errorful-most mode documentEntry zero = refl
+errorful-most mode documentEntry (suc zero) = refl
+errorful-most mode documentEntry (suc (suc zero)) = refl
+errorful-most mode documentEntry (suc (suc (suc zero))) = refl
+errorful-most mode documentEntry (suc (suc (suc (suc n)))) = document-errors (errorful documentEntry (suc (suc (suc (suc n))))) n 1 mode
+errorful-most mode keyEntry n = none-left (errorsIn mode (run Dot n 0)) (key message.invalidKey (run Dot n 0) .items) (key message.invalidKey (run Dot n 0) .rest) (dots-rest (run Dot n 0) message.invalidKey n 0) ∙ dots-errors (run Dot n 0) message.invalidKey mode n 0
+errorful-most mode simpleKeyEntry n = alone-errors mode (commented n 0) n 0
+errorful-most mode valueEntry zero = refl
+errorful-most mode valueEntry (suc zero) = refl
+errorful-most mode valueEntry (suc (suc zero)) = refl
+errorful-most mode valueEntry (suc (suc (suc n))) = value-family (bracketed (suc (suc n)) 0) n 0 (errorsIn mode (bracketed (suc (suc n)) 0)) ∙ bracketed-errors (bracketed (suc (suc n)) 0) n 0 mode

@@ -92,34 +92,34 @@ module _ (head : Place) (nest : Nest) (short : (bracket : Bracket) (a b : ℕ) (
   abbrev table : State → Progress
   table st = progress st false
 
-  table-same : (x : Action) (k : Kind) (f g : Loop Progress) (st : State) (empty : Bool) (a b : ℕ) (ts : List Tok) → Dotted x k → Agree f g (length ts) → inlineTableStep x k head nest f st empty a b ts ≡ inlineTableStep x k head nest g st empty a b ts
-  table-same A.Comment k f g st empty a b ts d e = ap (λ x. report message.commentInInlineTable expected.nothing head (span a b) ▹ x) (same-then (onComment a b ts) (f (progress st empty)) (g (progress st empty)) (length ts) (comment-short a b ts) (e (progress st empty)))
-  table-same A.Whitespace k f g st empty a b ts d e = ap (λ x. receiver.whitespace a b ▹ x) (e (progress st empty) ts (le-refl _))
-  table-same A.Newline k f g st empty a b ts d e = ap (λ x. report message.newlineInInlineTable expected.nothing head (span a b) ▹ receiver.newline a b ▹ x) (e (progress st empty) ts (le-refl _))
-  table-same A.Eof k f g st empty a b ts d e = refl
-  table-same A.ExtraComma k f g st empty a b ts d e = ap (λ x. refused message.extraCommaInInlineTable st head a b ▸ x) (e (progress st empty) ts (le-refl _))
-  table-same A.ValueSep k f g st empty a b ts d e = ap (λ x. receiver.valueSep a b ▹ x) (e (progress State.NeedsKey empty) ts (le-refl _))
-  table-same A.EmptyKey k f g st empty a b ts d e = ap (λ x. receiver.simpleKey Encoding.None a a ▹ receiver.keyValSep a b ▹ x) (e (table State.NeedsValue) ts (le-refl _))
-  table-same A.KeyValSep k f g st empty a b ts d e = ap (λ x. receiver.keyValSep a b ▹ x) (e (table State.NeedsValue) ts (le-refl _))
-  table-same A.ExtraAssignment k f g st empty a b ts d e = ap (λ x. refused message.extraAssignment st head a b ▸ x) (e (progress st empty) ts (le-refl _))
-  table-same A.KeylessTable k f g st empty a b ts d e = ap (λ x. refused message.missingKeyInInlineTable st head a b ▸ x) (same-then (ignoreToValueClose Bracket.Curly ts) (f (progress st empty)) (g (progress st empty)) (length ts) (value-close-short Bracket.Curly ts) (e (progress st empty)))
-  table-same A.UnassignedTable k f g st empty a b ts d e = ap (λ x. report message.missingAssignment (wanted st) head (before a b) ▹ x) (same-then (nest Bracket.Curly a b ts) (f (table State.NeedsComma)) (g (table State.NeedsComma)) (length ts) (short Bracket.Curly a b ts) (e (table State.NeedsComma)))
-  table-same A.Table k f g st empty a b ts d e = same-then (nest Bracket.Curly a b ts) (f (table State.NeedsComma)) (g (table State.NeedsComma)) (length ts) (short Bracket.Curly a b ts) (e (table State.NeedsComma))
-  table-same A.Close k f g st empty a b ts d e = refl
-  table-same A.KeylessArray k f g st empty a b ts d e = ap (λ x. refused message.missingKeyInInlineTable st head a b ▸ x) (same-then (ignoreToValueClose Bracket.Square ts) (f (progress st empty)) (g (progress st empty)) (length ts) (value-close-short Bracket.Square ts) (e (progress st empty)))
-  table-same A.UnassignedArray k f g st empty a b ts d e = ap (λ x. report message.missingAssignment (wanted st) head (before a b) ▹ x) (same-then (nest Bracket.Square a b ts) (f (table State.NeedsComma)) (g (table State.NeedsComma)) (length ts) (short Bracket.Square a b ts) (e (table State.NeedsComma)))
-  table-same A.Array k f g st empty a b ts d e = same-then (nest Bracket.Square a b ts) (f (table State.NeedsComma)) (g (table State.NeedsComma)) (length ts) (short Bracket.Square a b ts) (e (table State.NeedsComma))
-  table-same A.InvalidElement k f g st empty a b ts d e = ap (λ x. refused message.invalidInlineTableElement st head a b ▸ x) (e (progress st empty) ts (le-refl _))
-  table-same A.ArrayWithoutOpen k f g st empty a b ts d e = ap (λ x. report message.missingArrayOpening expected.openSquare (span a b) (before a b) ▹ receiver.arrayOpen a a ▹ receiver.arrayClose a b ▹ x) (e (table State.NeedsComma) ts (le-refl _))
-  table-same A.DotKey k f g st empty a b ts d e = ap (λ x. receiver.simpleKey Encoding.None a a ▹ x) (same-then (optDotKeys (tok k a b ∷ ts)) (f (table State.NeedsEquals)) (g (table State.NeedsEquals)) (length ts) (dot-short k a b ts d) (e (table State.NeedsEquals)))
-  table-same A.Key k f g st empty a b ts d e = ap (λ x. receiver.simpleKey (encodingAt k) a b ▹ x) (same-then (optDotKeys ts) (f (table State.NeedsEquals)) (g (table State.NeedsEquals)) (length ts) (dots-short ts) (e (table State.NeedsEquals)))
-  table-same A.UnassignedScalar k f g st empty a b ts d e = ap (λ x. report message.missingAssignment (wanted st) head (before a b) ▹ x) (same-then (onScalar k a b ts) (f (table State.NeedsComma)) (g (table State.NeedsComma)) (length ts) (scalar-short k a b ts) (e (table State.NeedsComma)))
-  table-same A.Scalar k f g st empty a b ts d e = same-then (onScalar k a b ts) (f (table State.NeedsComma)) (g (table State.NeedsComma)) (length ts) (scalar-short k a b ts) (e (table State.NeedsComma))
-  table-same A.DotKeyWithoutComma k f g st empty a b ts d e = ap (λ x. report message.missingCommaInInlineTable (wanted st) head (before a b) ▹ receiver.simpleKey Encoding.None a a ▹ x) (same-then (optDotKeys (tok k a b ∷ ts)) (f (table State.NeedsEquals)) (g (table State.NeedsEquals)) (length ts) (dot-short k a b ts d) (e (table State.NeedsEquals)))
-  table-same A.KeyWithoutComma k f g st empty a b ts d e = ap (λ x. report message.missingCommaInInlineTable (wanted st) head (before a b) ▹ receiver.simpleKey (encodingAt k) a b ▹ x) (same-then (optDotKeys ts) (f (table State.NeedsEquals)) (g (table State.NeedsEquals)) (length ts) (dots-short ts) (e (table State.NeedsEquals)))
+  table-same : (opened : ℕ) (x : Action) (k : Kind) (f g : Loop Progress) (st : State) (empty : Bool) (a b : ℕ) (ts : List Tok) → Dotted x k → Agree f g (length ts) → inlineTableStep x k head opened nest f st empty a b ts ≡ inlineTableStep x k head opened nest g st empty a b ts
+  table-same opened A.Comment k f g st empty a b ts d e = ap (λ x. report message.commentInInlineTable expected.nothing head (span a b) ▹ x) (same-then (onComment a b ts) (f (progress st empty)) (g (progress st empty)) (length ts) (comment-short a b ts) (e (progress st empty)))
+  table-same opened A.Whitespace k f g st empty a b ts d e = ap (λ x. receiver.whitespace a b ▹ x) (e (progress st empty) ts (le-refl _))
+  table-same opened A.Newline k f g st empty a b ts d e = ap (λ x. report message.newlineInInlineTable expected.nothing head (span a b) ▹ receiver.newline a b ▹ x) (e (progress st empty) ts (le-refl _))
+  table-same opened A.Eof k f g st empty a b ts d e = refl
+  table-same opened A.ExtraComma k f g st empty a b ts d e = ap (λ x. refused message.extraCommaInInlineTable st head a b ▸ x) (e (progress st empty) ts (le-refl _))
+  table-same opened A.ValueSep k f g st empty a b ts d e = ap (λ x. receiver.valueSep a b ▹ x) (e (progress State.NeedsKey empty) ts (le-refl _))
+  table-same opened A.EmptyKey k f g st empty a b ts d e = ap (λ x. receiver.simpleKey Encoding.None a a ▹ receiver.keyValSep a b ▹ x) (e (table State.NeedsValue) ts (le-refl _))
+  table-same opened A.KeyValSep k f g st empty a b ts d e = ap (λ x. receiver.keyValSep a b ▹ x) (e (table State.NeedsValue) ts (le-refl _))
+  table-same opened A.ExtraAssignment k f g st empty a b ts d e = ap (λ x. refused message.extraAssignment st head a b ▸ x) (e (progress st empty) ts (le-refl _))
+  table-same opened A.KeylessTable k f g st empty a b ts d e = ap (λ x. refused message.missingKeyInInlineTable st head a b ▸ x) (same-then (ignoreToValueClose Bracket.Curly ts) (f (progress st empty)) (g (progress st empty)) (length ts) (value-close-short Bracket.Curly ts) (e (progress st empty)))
+  table-same opened A.UnassignedTable k f g st empty a b ts d e = ap (λ x. report message.missingAssignment (wanted st) head (before a b) ▹ x) (same-then (nest Bracket.Curly a b ts) (f (table State.NeedsComma)) (g (table State.NeedsComma)) (length ts) (short Bracket.Curly a b ts) (e (table State.NeedsComma)))
+  table-same opened A.Table k f g st empty a b ts d e = same-then (nest Bracket.Curly a b ts) (f (table State.NeedsComma)) (g (table State.NeedsComma)) (length ts) (short Bracket.Curly a b ts) (e (table State.NeedsComma))
+  table-same opened A.Close k f g st empty a b ts d e = refl
+  table-same opened A.KeylessArray k f g st empty a b ts d e = ap (λ x. refused message.missingKeyInInlineTable st head a b ▸ x) (same-then (ignoreToValueClose Bracket.Square ts) (f (progress st empty)) (g (progress st empty)) (length ts) (value-close-short Bracket.Square ts) (e (progress st empty)))
+  table-same opened A.UnassignedArray k f g st empty a b ts d e = ap (λ x. report message.missingAssignment (wanted st) head (before a b) ▹ x) (same-then (nest Bracket.Square a b ts) (f (table State.NeedsComma)) (g (table State.NeedsComma)) (length ts) (short Bracket.Square a b ts) (e (table State.NeedsComma)))
+  table-same opened A.Array k f g st empty a b ts d e = same-then (nest Bracket.Square a b ts) (f (table State.NeedsComma)) (g (table State.NeedsComma)) (length ts) (short Bracket.Square a b ts) (e (table State.NeedsComma))
+  table-same opened A.InvalidElement k f g st empty a b ts d e = ap (λ x. refused message.invalidInlineTableElement st head a b ▸ x) (e (progress st empty) ts (le-refl _))
+  table-same opened A.ArrayWithoutOpen k f g st empty a b ts d e = ap (λ x. report message.missingArrayOpening expected.openSquare (span a b) (before a b) ▹ receiver.arrayOpen a a ▹ receiver.arrayClose a b ▹ x) (e (table State.NeedsComma) ts (le-refl _))
+  table-same opened A.DotKey k f g st empty a b ts d e = ap (λ x. receiver.simpleKey Encoding.None a a ▹ x) (same-then (optDotKeys (tok k a b ∷ ts)) (f (table State.NeedsEquals)) (g (table State.NeedsEquals)) (length ts) (dot-short k a b ts d) (e (table State.NeedsEquals)))
+  table-same opened A.Key k f g st empty a b ts d e = ap (λ x. receiver.simpleKey (encodingAt k) a b ▹ x) (same-then (optDotKeys ts) (f (table State.NeedsEquals)) (g (table State.NeedsEquals)) (length ts) (dots-short ts) (e (table State.NeedsEquals)))
+  table-same opened A.UnassignedScalar k f g st empty a b ts d e = ap (λ x. report message.missingAssignment (wanted st) head (before a b) ▹ x) (same-then (onScalar k a b ts) (f (table State.NeedsComma)) (g (table State.NeedsComma)) (length ts) (scalar-short k a b ts) (e (table State.NeedsComma)))
+  table-same opened A.Scalar k f g st empty a b ts d e = same-then (onScalar k a b ts) (f (table State.NeedsComma)) (g (table State.NeedsComma)) (length ts) (scalar-short k a b ts) (e (table State.NeedsComma))
+  table-same opened A.DotKeyWithoutComma k f g st empty a b ts d e = ap (λ x. report message.missingCommaInInlineTable (wanted st) head (before a b) ▹ receiver.simpleKey Encoding.None a a ▹ x) (same-then (optDotKeys (tok k a b ∷ ts)) (f (table State.NeedsEquals)) (g (table State.NeedsEquals)) (length ts) (dot-short k a b ts d) (e (table State.NeedsEquals)))
+  table-same opened A.KeyWithoutComma k f g st empty a b ts d e = ap (λ x. report message.missingCommaInInlineTable (wanted st) head (before a b) ▹ receiver.simpleKey (encodingAt k) a b ▹ x) (same-then (optDotKeys ts) (f (table State.NeedsEquals)) (g (table State.NeedsEquals)) (length ts) (dots-short ts) (e (table State.NeedsEquals)))
 
-  pub table-local : Local (inlineTableTurn head nest)
-  table-local f g p (tok k a b) ts e = table-same (actionOf (p .state) k) k f g (p .state) (p .empty) a b ts (dotted (p .state) k) e
+  pub table-local : (opened : ℕ) → Local (inlineTableTurn head opened nest)
+  table-local opened f g p (tok k a b) ts e = table-same opened (actionOf (p .state) k) k f g (p .state) (p .empty) a b ts (dotted (p .state) k) e
 
 -- more turns than tokens change nothing
 pub value-close-enough : (bracket : Bracket) (n m : ℕ) (o : Opened) (ts : List Tok) → length ts ≤ n → length ts ≤ m → turns (valueCloseTurn bracket) n o ts ≡ turns (valueCloseTurn bracket) m o ts
@@ -128,5 +128,5 @@ value-close-enough bracket = turns-enough (valueCloseTurn bracket) (λ f g o. re
 pub array-enough : (head : Place) (levels n m : ℕ) (st : ArrayState) (ts : List Tok) → length ts ≤ n → length ts ≤ m → turns (arrayTurn head (onOpen levels)) n st ts ≡ turns (arrayTurn head (onOpen levels)) m st ts
 array-enough head levels = turns-enough (arrayTurn head (onOpen levels)) (λ f g st. refl) (array-local head (onOpen levels) (open-short levels))
 
-pub inline-table-enough : (head : Place) (levels n m : ℕ) (p : Progress) (ts : List Tok) → length ts ≤ n → length ts ≤ m → turns (inlineTableTurn head (onOpen levels)) n p ts ≡ turns (inlineTableTurn head (onOpen levels)) m p ts
-inline-table-enough head levels = turns-enough (inlineTableTurn head (onOpen levels)) (λ f g p. refl) (table-local head (onOpen levels) (open-short levels))
+pub inline-table-enough : (head : Place) (opened levels n m : ℕ) (p : Progress) (ts : List Tok) → length ts ≤ n → length ts ≤ m → turns (inlineTableTurn head opened (onOpen levels)) n p ts ≡ turns (inlineTableTurn head opened (onOpen levels)) m p ts
+inline-table-enough head opened levels = turns-enough (inlineTableTurn head opened (onOpen levels)) (λ f g p. refl) (table-local head (onOpen levels) (open-short levels) opened)

@@ -5,6 +5,7 @@ use native.Mathlib.Omega.{arith}
 use lib.ListN.{length}
 use Rattle.token.specs.Limits.{maxRecords}
 use Rattle.token.specs.Tokens.{Tok}
+use Rattle.rules.specs.declared.options.Mode.{Mode}
 use Rattle.rules.specs.Words.{eventsOf, errorsOf}
 use Rattle.rules.specs.Entries.{Entry, documentEntry, keyEntry, simpleKeyEntry, valueEntry, parse}
 use Rattle.bounds.specs.Most.{mostEvents, mostErrors}
@@ -42,12 +43,12 @@ two-errors valueEntry (suc (suc (suc n))) = omega arith
 pub event-bound : (e : Entry) (ts all : List Tok) → length (eventsOf all (parse e ts .items)) ≤ 3 * length ts
 event-bound e ts all = omega (arith, most-events e ts all, three-events e (length ts))
 
-pub error-bound : (e : Entry) (ts all : List Tok) → length (errorsOf all (parse e ts .items)) ≤ 2 * length ts + 1
-error-bound e ts all = omega (arith, most-errors e ts all, two-errors e (length ts))
+pub error-bound : (mode : Mode) (e : Entry) (ts all : List Tok) → length (errorsOf mode all (parse e ts .items)) ≤ 2 * length ts + 1
+error-bound mode e ts all = omega (arith, most-errors mode e ts all, two-errors e (length ts))
 
 -- so no count of an accepted list comes near the bound at which the code's counts stop
-pub counts-fit : (e : Entry) (ts all : List Tok) → length ts ≤ maxRecords → (length (eventsOf all (parse e ts .items)) ≤ 2147483647) × (length (errorsOf all (parse e ts .items)) ≤ 2147483647)
-counts-fit e ts all h = (omega (arith, event-bound e ts all), omega (arith, error-bound e ts all))
+pub counts-fit : (mode : Mode) (e : Entry) (ts all : List Tok) → length ts ≤ maxRecords → (length (eventsOf all (parse e ts .items)) ≤ 2147483647) × (length (errorsOf mode all (parse e ts .items)) ≤ 2147483647)
+counts-fit mode e ts all h = (omega (arith, event-bound e ts all), omega (arith, error-bound mode e ts all))
 
 -- a longer document can give more
 pub more-events : (n m : ℕ) → n ≤ m → mostEvents documentEntry n ≤ mostEvents documentEntry m

@@ -15,6 +15,7 @@ use Rattle.token.specs.Records.{count, lengthAt, kindNumberAt}
 use Rattle.token.specs.Tokens.{allTokens}
 use Rattle.token.specs.Check.{recordRefusal, refusedAt, checkedFrom, checked}
 use Rattle.token.specs.CursorLaws.{all-length}
+use Rattle.rules.specs.declared.options.Options.{Options}
 use Rattle.rules.specs.Words.{eventsOf, errorsOf, Halt, ended, refusedLevel, haltOf}
 use Rattle.rules.specs.Entries.{Entry, parse}
 use Rattle.rules.specs.Answer.{eventSize, errorSize, refusalBy, walked, outcomeBy, outcome}
@@ -73,56 +74,56 @@ low-refusal ended false true = omega arith
 low-refusal ended false false = omega arith
 low-refusal (refusedLevel n) shortEvents shortErrors = omega arith
 
-module _ (e : Entry) (s : List ℕ) (base : ℕ) (events errors : List ℕ) where
+module _ (options : Options) (e : Entry) (s : List ℕ) (base : ℕ) (events errors : List ℕ) where
   passed-events : length (eventsOf (allTokens s base) (parse e (allTokens s base) .items)) ≤ mostEvents e (count s)
   passed-events = subst (λ (n : ℕ). length (eventsOf (allTokens s base) (parse e (allTokens s base) .items)) ≤ mostEvents e n) (all-length s base) (most-events e (allTokens s base) (allTokens s base))
 
-  passed-errors : length (errorsOf (allTokens s base) (parse e (allTokens s base) .items)) ≤ mostErrors e (count s)
-  passed-errors = subst (λ (n : ℕ). length (errorsOf (allTokens s base) (parse e (allTokens s base) .items)) ≤ mostErrors e n) (all-length s base) (most-errors e (allTokens s base) (allTokens s base))
+  passed-errors : length (errorsOf (options .mode) (allTokens s base) (parse e (allTokens s base) .items)) ≤ mostErrors e (count s)
+  passed-errors = subst (λ (n : ℕ). length (errorsOf (options .mode) (allTokens s base) (parse e (allTokens s base) .items)) ≤ mostErrors e n) (all-length s base) (most-errors (options .mode) e (allTokens s base) (allTokens s base))
 
-  by-check : (c : Checked) → (outcomeBy c e s base events errors .answer .events ≤ mostEvents e (count s)) × (outcomeBy c e s base events errors .answer .errors ≤ mostErrors e (count s))
+  by-check : (c : Checked) → (outcomeBy c options e s base events errors .answer .events ≤ mostEvents e (count s)) × (outcomeBy c options e s base events errors .answer .errors ≤ mostErrors e (count s))
   unfolding walked
   by-check Checked.Passed = (passed-events, passed-errors)
   by-check (Checked.Refused r i) = (omega arith, omega arith)
 
-  pub counts-most : (outcome e s base events errors .answer .events ≤ mostEvents e (count s)) × (outcome e s base events errors .answer .errors ≤ mostErrors e (count s))
+  pub counts-most : (outcome options e s base events errors .answer .events ≤ mostEvents e (count s)) × (outcome options e s base events errors .answer .errors ≤ mostErrors e (count s))
   unfolding outcome
   counts-most = by-check (checked s base)
 
-  pub counts-within : (outcome e s base events errors .answer .events ≤ 3 * count s) × (outcome e s base events errors .answer .errors ≤ 2 * count s + 1)
+  pub counts-within : (outcome options e s base events errors .answer .events ≤ 3 * count s) × (outcome options e s base events errors .answer .errors ≤ 2 * count s + 1)
   counts-within = (omega (arith, counts-most .0, three-events e (count s)), omega (arith, counts-most .1, two-errors e (count s)))
 
-  seven-by : (c : Checked) → Low c → mostEvents e (count s) ≤ length events / eventSize → outcomeBy c e s base events errors .answer .refusal ≡ 7 → ⊥
+  seven-by : (c : Checked) → Low c → mostEvents e (count s) ≤ length events / eventSize → outcomeBy c options e s base events errors .answer .refusal ≡ 7 → ⊥
   unfolding walked
   seven-by Checked.Passed low h q =
       let fits : length (eventsOf (allTokens s base) (parse e (allTokens s base) .items)) ≤ length events / eventSize = omega (arith, h, passed-events) in
       not-seven (haltOf (parse e (allTokens s base) .items)) _
-      (subst (λ (b : Bool). refusalBy (haltOf (parse e (allTokens s base) .items)) b (ltb (length errors / errorSize) (length (errorsOf (allTokens s base) (parse e (allTokens s base) .items)))) ≡ 7) (le-ltb _ _ fits) q)
+      (subst (λ (b : Bool). refusalBy (haltOf (parse e (allTokens s base) .items)) b (ltb (length errors / errorSize) (length (errorsOf (options .mode) (allTokens s base) (parse e (allTokens s base) .items)))) ≡ 7) (le-ltb _ _ fits) q)
   seven-by (Checked.Refused r i) low h q = omega (arith, low, q)
 
-  eight-by : (c : Checked) → Low c → mostErrors e (count s) ≤ length errors / errorSize → outcomeBy c e s base events errors .answer .refusal ≡ 8 → ⊥
+  eight-by : (c : Checked) → Low c → mostErrors e (count s) ≤ length errors / errorSize → outcomeBy c options e s base events errors .answer .refusal ≡ 8 → ⊥
   unfolding walked
   eight-by Checked.Passed low h q =
-      let fits : length (errorsOf (allTokens s base) (parse e (allTokens s base) .items)) ≤ length errors / errorSize = omega (arith, h, passed-errors) in
+      let fits : length (errorsOf (options .mode) (allTokens s base) (parse e (allTokens s base) .items)) ≤ length errors / errorSize = omega (arith, h, passed-errors) in
       not-eight (haltOf (parse e (allTokens s base) .items)) _
       (subst (λ (b : Bool). refusalBy (haltOf (parse e (allTokens s base) .items)) (ltb (length events / eventSize) (length (eventsOf (allTokens s base) (parse e (allTokens s base) .items)))) b ≡ 8) (le-ltb _ _ fits) q)
   eight-by (Checked.Refused r i) low h q = omega (arith, low, q)
 
   -- room for the most events, and for the most errors
-  pub room-events : mostEvents e (count s) ≤ length events / eventSize → outcome e s base events errors .answer .refusal ≡ 7 → ⊥
+  pub room-events : mostEvents e (count s) ≤ length events / eventSize → outcome options e s base events errors .answer .refusal ≡ 7 → ⊥
   unfolding outcome
   room-events = seven-by (checked s base) (checked-low s base)
 
-  pub room-errors : mostErrors e (count s) ≤ length errors / errorSize → outcome e s base events errors .answer .refusal ≡ 8 → ⊥
+  pub room-errors : mostErrors e (count s) ≤ length errors / errorSize → outcome options e s base events errors .answer .refusal ≡ 8 → ⊥
   unfolding outcome
   room-errors = eight-by (checked s base) (checked-low s base)
 
   -- no other refusal comes
-  eight-most : (c : Checked) → Low c → outcomeBy c e s base events errors .answer .refusal ≤ 8
+  eight-most : (c : Checked) → Low c → outcomeBy c options e s base events errors .answer .refusal ≤ 8
   unfolding walked
   eight-most Checked.Passed low = low-refusal (haltOf (parse e (allTokens s base) .items)) _ _
   eight-most (Checked.Refused r i) low = omega (arith, low)
 
-  pub refusal-most : outcome e s base events errors .answer .refusal ≤ 8
+  pub refusal-most : outcome options e s base events errors .answer .refusal ≤ 8
   unfolding outcome
   refusal-most = eight-most (checked s base) (checked-low s base)

@@ -14,6 +14,7 @@ use Rattle.rules.specs.Out.{Out, done, _▹_, _then_}
 use Rattle.rules.specs.Receiver as receiver
 use Rattle.rules.specs.Messages as message
 use Rattle.rules.specs.Limits.{maxDepth}
+use Rattle.rules.specs.declared.options.Mode.{Mode}
 use Rattle.rules.specs.Words.{eventsOf, errorsOf}
 use Rattle.rules.specs.Costs.{eventCount, errorCount, events-counted, errors-counted, events-append, errors-append}
 use Rattle.rules.specs.Skipping.{inLine, onComment, eof}
@@ -116,5 +117,5 @@ entry-most valueEntry ts = with-eof valueEntry ts (value maxDepth ts) (record { 
 pub most-events : (e : Entry) (ts all : List Tok) → length (eventsOf all (parse e ts .items)) ≤ mostEvents e (length ts)
 most-events e ts all = omega (arith, entry-most e ts .0, events-counted all (parse e ts .items))
 
-pub most-errors : (e : Entry) (ts all : List Tok) → length (errorsOf all (parse e ts .items)) ≤ mostErrors e (length ts)
-most-errors e ts all = omega (arith, entry-most e ts .1, errors-counted all (parse e ts .items))
+pub most-errors : (mode : Mode) (e : Entry) (ts all : List Tok) → length (errorsOf mode all (parse e ts .items)) ≤ mostErrors e (length ts)
+most-errors mode e ts all = omega (arith, entry-most e ts .1, errors-counted mode all (parse e ts .items))

@@ -91,12 +91,12 @@ dotted-costs k a b ts e =
     subst (λ (c : InKey). Costs ts 2 0 (afterPartStep c a b (done (tok k a b ∷ ts)) (dotKeys ts) (afterDot ts b))) (sym e) q
 
 -- a trailing comma: a report
-trailing-costs : {ts : List Tok} {e r : ℕ} {o : Out} (empty : Bool) (st : State) (head : Place) (a b : ℕ) (us : List Tok) → Costs ts e r o → Costs ts e (suc r) (trailing empty st head a b us ▸ o)
-trailing-costs true st head a b us p = omega arith
-trailing-costs false State.NeedsKey head a b us p = omega arith
-trailing-costs false State.NeedsEquals head a b us p = omega arith
-trailing-costs false State.NeedsValue head a b us p = omega arith
-trailing-costs false State.NeedsComma head a b us p = omega arith
+trailing-costs : {ts : List Tok} {e r : ℕ} {o : Out} (empty : Bool) (st : State) (head : Place) (opened a left : ℕ) → Costs ts e r o → Costs ts e (suc r) (trailing empty st head opened a left ▸ o)
+trailing-costs true st head opened a left p = omega arith
+trailing-costs false State.NeedsKey head opened a left p = omega arith
+trailing-costs false State.NeedsEquals head opened a left p = omega arith
+trailing-costs false State.NeedsValue head opened a left p = omega arith
+trailing-costs false State.NeedsComma head opened a left p = omega arith
 
 -- what comes besides at an action: behind a key that begins with a dot the close, if nothing is left; the report of a bracket without `=`
 abbrev actionEvents : Action → List Tok → ℕ
@@ -203,7 +203,7 @@ table-few State.NeedsEquals ts = (spare-few ts, omega arith)
 table-few State.NeedsValue ts = (spare-one-few ts .0, omega arith)
 table-few State.NeedsComma ts = (spare-one-few ts .0, omega arith)
 
-module _ (head : Place) (nest : Nest) (n : NestCosts nest) (loop : Progress → List Tok → Out) (closely : (w : Progress) (us : List Tok) → Costs us (inTableEvents (w .state) us) (inTableErrors (w .state) us) (loop w us)) where
+module _ (head : Place) (opened : ℕ) (nest : Nest) (n : NestCosts nest) (loop : Progress → List Tok → Out) (closely : (w : Progress) (us : List Tok) → Costs us (inTableEvents (w .state) us) (inTableErrors (w .state) us) (loop w us)) where
   l : (w : Progress) (us : List Tok) → Costs us 1 1 (loop w us)
   l w us = weaker (table-few (w .state) us .0) (table-few (w .state) us .1) (closely w us)
 
@@ -221,7 +221,7 @@ module _ (head : Place) (nest : Nest) (n : NestCosts nest) (loop : Progress → 
           errors = omega (arith, t .errors, q .errors, few, errors-append (o .items) (loop (progress State.NeedsEquals empty) (o .rest) .items));
         }
 
-    inline-table-step-costs : (c : Action) → Dotted c k → (st : State) (empty : Bool) → Costs (tok k a b ∷ ts) (actionEvents c ts) (actionErrors c) (inlineTableStep c k head nest loop st empty a b ts)
+    inline-table-step-costs : (c : Action) → Dotted c k → (st : State) (empty : Bool) → Costs (tok k a b ∷ ts) (actionEvents c ts) (actionErrors c) (inlineTableStep c k head opened nest loop st empty a b ts)
     inline-table-step-costs A.Comment d st empty = let p : Costs ts 2 1 (onComment a b ts then loop (progress st empty)) = then-costs (loop (progress st empty)) 1 1 (on-comment-costs a b ts) (l (progress st empty)) in omega arith
     inline-table-step-costs A.Whitespace d st empty = let p : Costs ts 1 1 (loop (progress st empty) ts) = l (progress st empty) ts in omega arith
     inline-table-step-costs A.Newline d st empty = let p : Costs ts 1 1 (loop (progress st empty) ts) = l (progress st empty) ts in omega arith
@@ -234,35 +234,35 @@ module _ (head : Place) (nest : Nest) (n : NestCosts nest) (loop : Progress → 
     inline-table-step-costs A.KeylessTable d st empty = let p : Costs ts 1 1 (ignoreToValueClose Bracket.Curly ts then loop (progress st empty)) = then-costs (loop (progress st empty)) 1 1 (ignore-to-value-close-costs Bracket.Curly ts) (l (progress st empty)) in omega arith
     inline-table-step-costs A.UnassignedTable d st empty = let p : Costs ts 3 2 (nest Bracket.Curly a b ts then loop (progress State.NeedsComma false)) = then-costs (loop (progress State.NeedsComma false)) 1 1 (n Bracket.Curly a b ts) (l (progress State.NeedsComma false)) in omega arith
     inline-table-step-costs A.Table d st empty = let p : Costs ts 3 2 (nest Bracket.Curly a b ts then loop (progress State.NeedsComma false)) = then-costs (loop (progress State.NeedsComma false)) 1 1 (n Bracket.Curly a b ts) (l (progress State.NeedsComma false)) in omega arith
-    inline-table-step-costs A.Close d st empty = let q : Costs ts 1 0 (receiver.inlineTableClose a b ▹ done ts) = omega arith in let p : Costs ts 1 1 (inlineTableStep A.Close k head nest loop st empty a b ts) = trailing-costs empty st head a b ts q in omega arith
+    inline-table-step-costs A.Close d st empty = let q : Costs ts 1 0 (receiver.inlineTableClose a b ▹ done ts) = omega arith in let p : Costs ts 1 1 (inlineTableStep A.Close k head opened nest loop st empty a b ts) = trailing-costs empty st head opened a (suc (length ts)) q in omega arith
     inline-table-step-costs A.KeylessArray d st empty = let p : Costs ts 1 1 (ignoreToValueClose Bracket.Square ts then loop (progress st empty)) = then-costs (loop (progress st empty)) 1 1 (ignore-to-value-close-costs Bracket.Square ts) (l (progress st empty)) in omega arith
     inline-table-step-costs A.UnassignedArray d st empty = let p : Costs ts 3 2 (nest Bracket.Square a b ts then loop (progress State.NeedsComma false)) = then-costs (loop (progress State.NeedsComma false)) 1 1 (n Bracket.Square a b ts) (l (progress State.NeedsComma false)) in omega arith
     inline-table-step-costs A.Array d st empty = let p : Costs ts 3 2 (nest Bracket.Square a b ts then loop (progress State.NeedsComma false)) = then-costs (loop (progress State.NeedsComma false)) 1 1 (n Bracket.Square a b ts) (l (progress State.NeedsComma false)) in omega arith
     inline-table-step-costs A.InvalidElement d st empty = let p : Costs ts 1 1 (loop (progress st empty) ts) = l (progress st empty) ts in omega arith
     inline-table-step-costs A.ArrayWithoutOpen d st empty = let p : Costs ts 1 1 (loop (progress State.NeedsComma false) ts) = l (progress State.NeedsComma false) ts in omega arith
-    inline-table-step-costs A.DotKey d st empty = let p : Costs ts (3 + spare ts) 1 (inlineTableStep A.DotKey k head nest loop st empty a b ts) = dot-key-costs false d in omega arith
+    inline-table-step-costs A.DotKey d st empty = let p : Costs ts (3 + spare ts) 1 (inlineTableStep A.DotKey k head opened nest loop st empty a b ts) = dot-key-costs false d in omega arith
     inline-table-step-costs A.Key d st empty = let p : Costs ts 1 1 (optDotKeys ts then loop (progress State.NeedsEquals false)) = then-costs (loop (progress State.NeedsEquals false)) 1 1 (opt-dot-keys-costs ts) (l (progress State.NeedsEquals false)) in omega arith
     inline-table-step-costs A.UnassignedScalar d st empty = let p : Costs ts 2 1 (onScalar k a b ts then loop (progress State.NeedsComma false)) = then-costs (loop (progress State.NeedsComma false)) 1 1 (on-scalar-costs k a b ts) (l (progress State.NeedsComma false)) in omega arith
     inline-table-step-costs A.Scalar d st empty = let p : Costs ts 2 1 (onScalar k a b ts then loop (progress State.NeedsComma false)) = then-costs (loop (progress State.NeedsComma false)) 1 1 (on-scalar-costs k a b ts) (l (progress State.NeedsComma false)) in omega arith
     inline-table-step-costs A.DotKeyWithoutComma d st empty = let p : Costs ts (3 + spare ts) 1 (receiver.simpleKey Encoding.None a a ▹ (optDotKeys (tok k a b ∷ ts) then loop (progress State.NeedsEquals false))) = dot-key-costs false d in omega arith
     inline-table-step-costs A.KeyWithoutComma d st empty = let p : Costs ts 1 1 (optDotKeys ts then loop (progress State.NeedsEquals false)) = then-costs (loop (progress State.NeedsEquals false)) 1 1 (opt-dot-keys-costs ts) (l (progress State.NeedsEquals false)) in omega arith
 
-inline-table-turn-costs : (head : Place) (nest : Nest) → NestCosts nest → (loop : Progress → List Tok → Out) → ((w : Progress) (us : List Tok) → Costs us (inTableEvents (w .state) us) (inTableErrors (w .state) us) (loop w us))
-    → (w : Progress) (ts : List Tok) → Costs ts (inTableEvents (w .state) ts) (inTableErrors (w .state) ts) (inlineTableTurn head nest loop w ts)
-inline-table-turn-costs head nest n loop l w [] = by-state (w .state)
+inline-table-turn-costs : (head : Place) (opened : ℕ) (nest : Nest) → NestCosts nest → (loop : Progress → List Tok → Out) → ((w : Progress) (us : List Tok) → Costs us (inTableEvents (w .state) us) (inTableErrors (w .state) us) (loop w us))
+    → (w : Progress) (ts : List Tok) → Costs ts (inTableEvents (w .state) ts) (inTableErrors (w .state) ts) (inlineTableTurn head opened nest loop w ts)
+inline-table-turn-costs head opened nest n loop l w [] = by-state (w .state)
   where
-    by-state : (st : State) → Costs [] (inTableEvents st []) (inTableErrors st []) (inlineTableTurn head nest loop w [])
+    by-state : (st : State) → Costs [] (inTableEvents st []) (inTableErrors st []) (inlineTableTurn head opened nest loop w [])
     by-state State.NeedsKey = omega arith
     by-state State.NeedsEquals = omega arith
     by-state State.NeedsValue = omega arith
     by-state State.NeedsComma = omega arith
-inline-table-turn-costs head nest n loop l w (tok k a b ∷ ts) = by-state (w .state)
+inline-table-turn-costs head opened nest n loop l w (tok k a b ∷ ts) = by-state (w .state)
   where
-    by-state : (st : State) → Costs (tok k a b ∷ ts) (inTableEvents st (tok k a b ∷ ts)) (inTableErrors st (tok k a b ∷ ts)) (inlineTableStep (actionOf st k) k head nest loop st (w .empty) a b ts)
-    by-state State.NeedsKey = weaker (action-few (actionOf State.NeedsKey k) ts .0) (le-of-eq (key-wanted k)) (inline-table-step-costs head nest n loop l k a b ts (actionOf State.NeedsKey k) (dotted State.NeedsKey k) State.NeedsKey (w .empty))
-    by-state State.NeedsEquals = weaker (le-of-eq (equals-wanted k ts)) (action-few (actionOf State.NeedsEquals k) ts .1) (inline-table-step-costs head nest n loop l k a b ts (actionOf State.NeedsEquals k) (dotted State.NeedsEquals k) State.NeedsEquals (w .empty))
-    by-state State.NeedsValue = weaker (action-few (actionOf State.NeedsValue k) ts .0) (action-few (actionOf State.NeedsValue k) ts .1) (inline-table-step-costs head nest n loop l k a b ts (actionOf State.NeedsValue k) (dotted State.NeedsValue k) State.NeedsValue (w .empty))
-    by-state State.NeedsComma = weaker (action-few (actionOf State.NeedsComma k) ts .0) (action-few (actionOf State.NeedsComma k) ts .1) (inline-table-step-costs head nest n loop l k a b ts (actionOf State.NeedsComma k) (dotted State.NeedsComma k) State.NeedsComma (w .empty))
+    by-state : (st : State) → Costs (tok k a b ∷ ts) (inTableEvents st (tok k a b ∷ ts)) (inTableErrors st (tok k a b ∷ ts)) (inlineTableStep (actionOf st k) k head opened nest loop st (w .empty) a b ts)
+    by-state State.NeedsKey = weaker (action-few (actionOf State.NeedsKey k) ts .0) (le-of-eq (key-wanted k)) (inline-table-step-costs head opened nest n loop l k a b ts (actionOf State.NeedsKey k) (dotted State.NeedsKey k) State.NeedsKey (w .empty))
+    by-state State.NeedsEquals = weaker (le-of-eq (equals-wanted k ts)) (action-few (actionOf State.NeedsEquals k) ts .1) (inline-table-step-costs head opened nest n loop l k a b ts (actionOf State.NeedsEquals k) (dotted State.NeedsEquals k) State.NeedsEquals (w .empty))
+    by-state State.NeedsValue = weaker (action-few (actionOf State.NeedsValue k) ts .0) (action-few (actionOf State.NeedsValue k) ts .1) (inline-table-step-costs head opened nest n loop l k a b ts (actionOf State.NeedsValue k) (dotted State.NeedsValue k) State.NeedsValue (w .empty))
+    by-state State.NeedsComma = weaker (action-few (actionOf State.NeedsComma k) ts .0) (action-few (actionOf State.NeedsComma k) ts .1) (inline-table-step-costs head opened nest n loop l k a b ts (actionOf State.NeedsComma k) (dotted State.NeedsComma k) State.NeedsComma (w .empty))
 
 -- by the levels still allowed: the opening event is besides, and the invented close unless tokens that follow pay for it
 weak-nest : {ts : List Tok} {o : Out} → Costs ts (1 + spareOne ts) (spare ts) o → Costs ts 2 1 o
@@ -275,7 +275,7 @@ on-open-spares (suc levels) Bracket.Square a b ts =
     let p : Costs ts (spare ts) (spare ts) (looping (arrayTurn (span a b) (onOpen levels)) ArrayState.NeedsValue ts) = turns-cost-by (arrayTurn (span a b) (onOpen levels)) inArraySpare inArraySpare (array-turn-costs (span a b) (onOpen levels) (λ br c d us. weak-nest (on-open-spares levels br c d us))) (length ts) ArrayState.NeedsValue ts in
     record { events = omega (arith, p .events, spare-one-few ts .1); errors = omega (arith, p .errors) }
 on-open-spares (suc levels) Bracket.Curly a b ts =
-    let p : Costs ts (spareOne ts) (spare ts) (looping (inlineTableTurn (span a b) (onOpen levels)) (progress State.NeedsKey true) ts) = turns-cost-by (inlineTableTurn (span a b) (onOpen levels)) (λ w. inTableEvents (w .state)) (λ w. inTableErrors (w .state)) (inline-table-turn-costs (span a b) (onOpen levels) (λ br c d us. weak-nest (on-open-spares levels br c d us))) (length ts) (progress State.NeedsKey true) ts in
+    let p : Costs ts (spareOne ts) (spare ts) (looping (inlineTableTurn (span a b) (length ts) (onOpen levels)) (progress State.NeedsKey true) ts) = turns-cost-by (inlineTableTurn (span a b) (length ts) (onOpen levels)) (λ w. inTableEvents (w .state)) (λ w. inTableErrors (w .state)) (inline-table-turn-costs (span a b) (length ts) (onOpen levels) (λ br c d us. weak-nest (on-open-spares levels br c d us))) (length ts) (progress State.NeedsKey true) ts in
     record { events = omega (arith, p .events); errors = omega (arith, p .errors) }
 
 pub on-open-costs : (levels : ℕ) → NestCosts (onOpen levels)

@@ -12,9 +12,9 @@ pub record ExportedOutcome : Type 0 where
   pub events : List ℕ
   pub errors : List ℕ
 
--- for the record bytes s (those of token structs too), the base and the buffers before it, two outcomes that meet the contract of the entry's
+-- for the mode's number, the record bytes s (those of token structs too), the base and the buffers before it, two outcomes that meet the contract of the entry's
 -- function are equal
 abbrev pub ExportsDetermined : Type 0
 ExportsDetermined =
-    (entry : Entry) (s : List ℕ) (base : ℕ) (events errors : List ℕ) (x y : ExportedOutcome)
-    → Exports entry s base events errors (x .events) (x .errors) (x .answer) → Exports entry s base events errors (y .events) (y .errors) (y .answer) → x ≡ y
+    (mode : ℕ) (entry : Entry) (s : List ℕ) (base : ℕ) (events errors : List ℕ) (x y : ExportedOutcome)
+    → Exports mode entry s base events errors (x .events) (x .errors) (x .answer) → Exports mode entry s base events errors (y .events) (y .errors) (y .answer) → x ≡ y

@@ -3,16 +3,21 @@
 pub mod answer;
 pub mod indexes;
 pub mod judgements;
+pub mod options;
 pub mod text;
 pub mod theorems;
 pub mod version;
 
 use crate::answer::ExportedAnswer;
 use crate::answer::exported;
+use crate::options::ExportedOptions;
 use entries::entries::parse_document;
 use entries::entries::parse_key;
 use entries::entries::parse_simple_key;
 use entries::entries::parse_value;
+use entries::modes::Chosen;
+use entries::modes::choose;
+use entries::modes::unknown_mode;
 use structs::Token;
 use structs::parse_tokens;
 ghost use Rattle.rules.specs.Entries.{documentEntry, keyEntry, simpleKeyEntry, valueEntry};
@@ -23,63 +28,81 @@ ghost use Rattle.deckmarten.specs.Exported.{Exports};
 pub extern "C" fn deckmarten_parse_document(
     s: &[u8],
     base: u32,
+    options: ExportedOptions,
     events: &mut [u32],
     errors: &mut [u32],
 ) -> ExportedAnswer
-    ensures { λ r. ⌜ Exports documentEntry (now (s .entry)) base (now (events .entry)) (now (errors .entry)) (now (events .exit)) (now (errors .exit)) r ⌝ }
+    ensures { λ r. ⌜ Exports (options .mode) documentEntry (now (s .entry)) base (now (events .entry)) (now (errors .entry)) (now (events .exit)) (now (errors .exit)) r ⌝ }
 {
-    let r = parse_document(s, base, events, errors);
-    exported(r)
+    let choice = choose(options.mode);
+    match choice {
+        Chosen::Known(known) => exported(parse_document(s, base, known, events, errors)),
+        Chosen::Unknown => exported(unknown_mode()),
+    }
 }
 
 #[no_mangle]
 pub extern "C" fn deckmarten_parse_key(
     s: &[u8],
     base: u32,
+    options: ExportedOptions,
     events: &mut [u32],
     errors: &mut [u32],
 ) -> ExportedAnswer
-    ensures { λ r. ⌜ Exports keyEntry (now (s .entry)) base (now (events .entry)) (now (errors .entry)) (now (events .exit)) (now (errors .exit)) r ⌝ }
+    ensures { λ r. ⌜ Exports (options .mode) keyEntry (now (s .entry)) base (now (events .entry)) (now (errors .entry)) (now (events .exit)) (now (errors .exit)) r ⌝ }
 {
-    let r = parse_key(s, base, events, errors);
-    exported(r)
+    let choice = choose(options.mode);
+    match choice {
+        Chosen::Known(known) => exported(parse_key(s, base, known, events, errors)),
+        Chosen::Unknown => exported(unknown_mode()),
+    }
 }
 
 #[no_mangle]
 pub extern "C" fn deckmarten_parse_simple_key(
     s: &[u8],
     base: u32,
+    options: ExportedOptions,
     events: &mut [u32],
     errors: &mut [u32],
 ) -> ExportedAnswer
-    ensures { λ r. ⌜ Exports simpleKeyEntry (now (s .entry)) base (now (events .entry)) (now (errors .entry)) (now (events .exit)) (now (errors .exit)) r ⌝ }
+    ensures { λ r. ⌜ Exports (options .mode) simpleKeyEntry (now (s .entry)) base (now (events .entry)) (now (errors .entry)) (now (events .exit)) (now (errors .exit)) r ⌝ }
 {
-    let r = parse_simple_key(s, base, events, errors);
-    exported(r)
+    let choice = choose(options.mode);
+    match choice {
+        Chosen::Known(known) => exported(parse_simple_key(s, base, known, events, errors)),
+        Chosen::Unknown => exported(unknown_mode()),
+    }
 }
 
 #[no_mangle]
 pub extern "C" fn deckmarten_parse_value(
     s: &[u8],
     base: u32,
+    options: ExportedOptions,
     events: &mut [u32],
     errors: &mut [u32],
 ) -> ExportedAnswer
-    ensures { λ r. ⌜ Exports valueEntry (now (s .entry)) base (now (events .entry)) (now (errors .entry)) (now (events .exit)) (now (errors .exit)) r ⌝ }
+    ensures { λ r. ⌜ Exports (options .mode) valueEntry (now (s .entry)) base (now (events .entry)) (now (errors .entry)) (now (events .exit)) (now (errors .exit)) r ⌝ }
 {
-    let r = parse_value(s, base, events, errors);
-    exported(r)
+    let choice = choose(options.mode);
+    match choice {
+        Chosen::Known(known) => exported(parse_value(s, base, known, events, errors)),
+        Chosen::Unknown => exported(unknown_mode()),
+    }
 }
 
+// The header's deckmarten_parse_tokens, whose options are a structure: it hands on the mode's number.
 #[no_mangle]
-pub extern "C" fn deckmarten_parse_tokens(
+pub extern "C" fn deckmarten_parse_tokens_in(
+    mode: u32,
     tokens: &[Token],
     base: u32,
     events: &mut [u32],
     errors: &mut [u32],
 ) -> ExportedAnswer
-    ensures { λ r. ⌜ Exports documentEntry (recordsOf (now (tokens .entry))) base (now (events .entry)) (now (errors .entry)) (now (events .exit)) (now (errors .exit)) r ⌝ }
+    ensures { λ r. ⌜ Exports mode documentEntry (recordsOf (now (tokens .entry))) base (now (events .entry)) (now (errors .entry)) (now (events .exit)) (now (errors .exit)) r ⌝ }
 {
-    let r = parse_tokens(tokens, base, events, errors);
+    let r = parse_tokens(mode, tokens, base, events, errors);
     exported(r)
 }

@@ -1,6 +1,9 @@
 // Text in, for programs in C and Rust: the lexer by itself, the joined entry, and the yes of a text.
 use crate::judgements::ExportedVerdict;
 use crate::judgements::exported_verdict;
+use crate::options::ExportedOptions;
+use entries::modes::Chosen;
+use entries::modes::choose;
 use lex::Lexed;
 use lex::lex;
 use text_rules::answer::TextAnswer;
@@ -67,14 +70,25 @@ pub extern "C" fn deckmarten_lex(text: &[u8], records: &mut [u8]) -> ExportedLex
 #[no_mangle]
 pub extern "C" fn deckmarten_parse_text(
     text: &[u8],
+    options: ExportedOptions,
     records: &mut [u8],
     events: &mut [u32],
     errors: &mut [u32],
 ) -> ExportedTextAnswer
-    ensures { λ r. ⌜ ExportsText (now (text .entry)) (now (records .entry)) (now (events .entry)) (now (errors .entry)) (now (records .exit)) (now (events .exit)) (now (errors .exit)) r ⌝ }
+    ensures { λ r. ⌜ ExportsText (options .mode) (now (text .entry)) (now (records .entry)) (now (events .entry)) (now (errors .entry)) (now (records .exit)) (now (events .exit)) (now (errors .exit)) r ⌝ }
 {
-    let r = parse_text(text, records, events, errors);
-    exported_text(r)
+    let choice = choose(options.mode);
+    match choice {
+        Chosen::Known(known) => exported_text(parse_text(text, known, records, events, errors)),
+        Chosen::Unknown => ExportedTextAnswer {
+            refusal: 15,
+            place: 0,
+            base: 0,
+            records: 0,
+            events: 0,
+            errors: 0,
+        },
+    }
 }
 
 #[no_mangle]

@@ -14,6 +14,7 @@ use output::message::KEY_WITH_NO_VALUE;
 use rules::document::InDocument;
 use rules::document::in_document;
 use rules::event::Event;
+use rules::options::Settings;
 use skip_lines::skipping::on_comment;
 use tables::table::on_table;
 use token::cursor::Cursor;
@@ -54,12 +55,12 @@ fn document_turn(
     s: &[u8],
     c: Cursor,
     m: Counts,
-    levels: u32,
+    settings: Settings,
     events: &mut [u32],
     errors: &mut [u32],
 ) -> DocumentTurn
     requires { ⌜ Good (now s) c ⌝ }
-    ensures { λ r. ⌜ Stepped (now (s .entry)) (λ loop. documentTurn levels loop tt (tokensAt (now (s .entry)) c)) c (bufs (now (events .entry)) (now (errors .entry)) m) (now (events .exit)) (now (errors .exit)) r ⌝ }
+    ensures { λ r. ⌜ Stepped (now (s .entry)) (λ loop. documentTurn (settings .levels) loop tt (tokensAt (now (s .entry)) c)) c (bufs (now (events .entry)) (now (errors .entry)) m) (now (events .exit)) (now (errors .exit)) r ⌝ }
 {
     let step = c.next(s);
     let Step::Got(t, past) = step else {
@@ -116,7 +117,7 @@ fn document_turn(
             return ended(Walk { cur: past, n: m });
         }
     }
-    let walk = key_and_value(s, from, n, message, levels, events, errors);
+    let walk = key_and_value(s, from, n, message, settings, events, errors);
     DocumentTurn { walk, over: false }
 }
 
@@ -124,17 +125,17 @@ pub fn document(
     s: &[u8],
     c: Cursor,
     m: Counts,
-    levels: u32,
+    settings: Settings,
     events: &mut [u32],
     errors: &mut [u32],
 ) -> NestWalk
     requires { ⌜ Good (now s) c ⌝ }
-    ensures { λ r. ⌜ Nested (now (s .entry)) (document levels (tokensAt (now (s .entry)) c)) c (bufs (now (events .entry)) (now (errors .entry)) m) (now (events .exit)) (now (errors .exit)) r ⌝ }
+    ensures { λ r. ⌜ Nested (now (s .entry)) (document (settings .levels) (tokensAt (now (s .entry)) c)) c (bufs (now (events .entry)) (now (errors .entry)) m) (now (events .exit)) (now (errors .exit)) r ⌝ }
 {
     let mut cur = c;
     let mut n = m;
     loop {
-        let a = document_turn(s, cur, n, levels, events, errors);
+        let a = document_turn(s, cur, n, settings, events, errors);
         let v = a.walk;
         let over = a.over;
         if over {

@@ -10,6 +10,7 @@ use Rattle.token.specs.declared.cursor.Cursor.{Cursor}
 use Rattle.token.specs.Check.{checked}
 use Rattle.token.specs.Tokens.{allTokens, At}
 use Rattle.rules.specs.declared.answer.Answer.{Answer}
+use Rattle.rules.specs.declared.options.Options.{Options}
 use Rattle.rules.specs.Out.{Out, _then_}
 use Rattle.rules.specs.Skipping.{eof}
 use Rattle.rules.specs.Entries.{Entry, parse}
@@ -20,15 +21,15 @@ use Rattle.nest.specs.declared.nest.NestWalk.{NestWalk}
 use Rattle.nest.specs.Nested.{Nested}
 use Rattle.entries.specs.declared.entries.Begun.{Begun}
 
--- the answer r, with the buffers a and b after it, is the rules' answer at the entry for the record bytes s, the base and the buffers
+-- the answer r, with the buffers a and b after it, is the rules' answer with the options at the entry for the record bytes s, the base and the buffers
 -- before it: one equation for all inputs, refusals too
-abbrev pub Answers : Entry → List ℕ → ℕ → List ℕ → List ℕ → List ℕ → List ℕ → Answer → Type 0
-Answers entry s base events errors a b r = record { answer = r; events = a; errors = b } ≡ outcome entry s base events errors
+abbrev pub Answers : Options → Entry → List ℕ → ℕ → List ℕ → List ℕ → List ℕ → List ℕ → Answer → Type 0
+Answers options entry s base events errors a b r = record { answer = r; events = a; errors = b } ≡ outcome options entry s base events errors
 
 -- at each entry, two answers with the buffers after them that are the rules' answer are equal
 abbrev pub Determined : List ℕ → ℕ → List ℕ → List ℕ → Type 0
 Determined s base events errors =
-    (entry : Entry) (x y : Outcome) → Answers entry s base events errors (x .events) (x .errors) (x .answer) → Answers entry s base events errors (y .events) (y .errors) (y .answer) → x ≡ y
+    (options : Options) (entry : Entry) (x y : Outcome) → Answers options entry s base events errors (x .events) (x .errors) (x .answer) → Answers options entry s base events errors (y .events) (y .errors) (y .answer) → x ≡ y
 
 -- nothing counted
 abbrev pub fresh : Counts
@@ -42,7 +43,7 @@ pub record Starts (s : List ℕ) (base : ℕ) (c : Cursor) (n : Counts) : Type 0
 
 -- what an entry begins with; a list that the check refuses is answered so at every entry
 abbrev pub Begins : List ℕ → ℕ → Begun → Type 0
-Begins s base (Begun.Refused r) = (entry : Entry) (events errors : List ℕ) → Answers entry s base events errors events errors r
+Begins s base (Begun.Refused r) = (options : Options) (entry : Entry) (events errors : List ℕ) → Answers options entry s base events errors events errors r
 Begins s base (Begun.Start c n) = Starts s base c n
 
 -- a walk v by an entry's rule g, up to what is left behind the end: from the start, with the buffers a and b after it
@@ -57,8 +58,8 @@ pub record Entered (entry : Entry) (s : List ℕ) (base : ℕ) (events errors a 
   pub errors-kept : length b ≡ length errors
 
 -- what an entry ends with: the answer r, whatever the entry, and the buffers after it
-abbrev pub Answered : List ℕ → NestWalk → List ℕ → List ℕ → List ℕ → List ℕ → Answer → Type 0
-Answered s v a b a' b' r = (entry : Entry) (base : ℕ) (events errors : List ℕ) → Entered entry s base events errors a b v → Answers entry s base events errors a' b' r
+abbrev pub Answered : Options → List ℕ → NestWalk → List ℕ → List ℕ → List ℕ → List ℕ → Answer → Type 0
+Answered options s v a b a' b' r = (entry : Entry) (base : ℕ) (events errors : List ℕ) → Entered entry s base events errors a b v → Answers options entry s base events errors a' b' r
 
 -- a walk v by any rule g, and then what is left behind the end
 abbrev pub Closed : List ℕ → NestWalk → List ℕ → List ℕ → List ℕ → List ℕ → NestWalk → Type 0

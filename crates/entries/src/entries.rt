@@ -13,15 +13,14 @@ use output::message::INVALID_KEY;
 use rules::answer::Answer;
 use rules::answer::ERROR_WORDS;
 use rules::answer::EVENT_WORDS;
+use rules::options::Options;
+use rules::options::Settings;
 use token::checked::Checked;
 use token::cursor::Cursor;
 use values::value::value;
 ghost use mathlib.Core.Path.{_≡_};
-ghost use Prim.Native.Nat.{_≤_};
 ghost use Rattle.token.specs.declared.checked.Checked.{Checked};
 ghost use Rattle.token.specs.Check.{checked};
-ghost use Rattle.token.specs.Limits.{maxRecords};
-ghost use Rattle.token.specs.Records.{count};
 ghost use Rattle.token.specs.Tokens.{Good};
 ghost use Rattle.rules.specs.Entries.{documentEntry, keyEntry, simpleKeyEntry, valueEntry};
 ghost use Rattle.entries.specs.Answers.{Answers, Answered, Begins, Closed, answerOf};
@@ -99,46 +98,75 @@ fn answer_of(v: NestWalk, event_room: usize, error_room: usize) -> Answer
     counted(0, 0, n)
 }
 
-// What every entry ends with: what is left behind its walk, the lines of the errors, and the answer.
-fn answered(s: &[u8], w: NestWalk, events: &mut [u32], errors: &mut [u32]) -> Answer
+// What every entry ends with: what is left behind its walk, the places and lines that the walk left open, and the answer.
+fn answered(
+    s: &[u8],
+    options: Options,
+    w: NestWalk,
+    events: &mut [u32],
+    errors: &mut [u32],
+) -> Answer
     requires { ⌜ Good (now s) (w .cur) ⌝ }
-    requires { ⌜ count (now s) ≤ maxRecords ⌝ }
-    ensures { λ r. ⌜ Answered (now (s .entry)) w (now (events .entry)) (now (errors .entry)) (now (events .exit)) (now (errors .exit)) r ⌝ }
+    requires { ⌜ checked (now s) (w .cur .base) ≡ Checked.Passed ⌝ }
+    ensures { λ r. ⌜ Answered options (now (s .entry)) w (now (events .entry)) (now (errors .entry)) (now (events .exit)) (now (errors .exit)) r ⌝ }
 {
     let cur = w.cur;
     let base = cur.base;
     let v = closing(s, w, events, errors);
     let n = v.n;
-    number_errors(s, base, n.errors, errors);
+    let mode = options.mode;
+    number_errors(s, base, mode, n.errors, errors);
     answer_of(v, events.len() / EVENT_WORDS, errors.len() / ERROR_WORDS)
 }
 
 // The walk of a document whose records are known to pass the check: a caller that wrote them itself has shown it, and nothing is asked again.
-pub fn read_document(s: &[u8], base: u32, events: &mut [u32], errors: &mut [u32]) -> Answer
+pub fn read_document(
+    s: &[u8],
+    base: u32,
+    options: Options,
+    events: &mut [u32],
+    errors: &mut [u32],
+) -> Answer
     requires { ⌜ checked (now s) base ≡ Checked.Passed ⌝ }
-    ensures { λ r. ⌜ Answers documentEntry (now (s .entry)) base (now (events .entry)) (now (errors .entry)) (now (events .exit)) (now (errors .exit)) r ⌝ }
+    ensures { λ r. ⌜ Answers options documentEntry (now (s .entry)) base (now (events .entry)) (now (errors .entry)) (now (events .exit)) (now (errors .exit)) r ⌝ }
 {
     let c = Cursor::new(base);
     let m = Counts {
         events: 0,
         errors: 0,
     };
-    let w = document(s, c, m, MAX_DEPTH, events, errors);
-    answered(s, w, events, errors)
+    let settings = Settings {
+        levels: MAX_DEPTH,
+        options,
+    };
+    let w = document(s, c, m, settings, events, errors);
+    answered(s, options, w, events, errors)
 }
 
-pub fn parse_document(s: &[u8], base: u32, events: &mut [u32], errors: &mut [u32]) -> Answer
-    ensures { λ r. ⌜ Answers documentEntry (now (s .entry)) base (now (events .entry)) (now (errors .entry)) (now (events .exit)) (now (errors .exit)) r ⌝ }
+pub fn parse_document(
+    s: &[u8],
+    base: u32,
+    options: Options,
+    events: &mut [u32],
+    errors: &mut [u32],
+) -> Answer
+    ensures { λ r. ⌜ Answers options documentEntry (now (s .entry)) base (now (events .entry)) (now (errors .entry)) (now (events .exit)) (now (errors .exit)) r ⌝ }
 {
     let begun = begin(s, base);
     match begun {
         Begun::Refused(answer) => answer,
-        Begun::Start(_, _) => read_document(s, base, events, errors),
+        Begun::Start(_, _) => read_document(s, base, options, events, errors),
     }
 }
 
-pub fn parse_key(s: &[u8], base: u32, events: &mut [u32], errors: &mut [u32]) -> Answer
-    ensures { λ r. ⌜ Answers keyEntry (now (s .entry)) base (now (events .entry)) (now (errors .entry)) (now (events .exit)) (now (errors .exit)) r ⌝ }
+pub fn parse_key(
+    s: &[u8],
+    base: u32,
+    options: Options,
+    events: &mut [u32],
+    errors: &mut [u32],
+) -> Answer
+    ensures { λ r. ⌜ Answers options keyEntry (now (s .entry)) base (now (events .entry)) (now (errors .entry)) (now (events .exit)) (now (errors .exit)) r ⌝ }
 {
     let begun = begin(s, base);
     match begun {
@@ -147,33 +175,49 @@ pub fn parse_key(s: &[u8], base: u32, events: &mut [u32], errors: &mut [u32]) ->
             let k = key(s, c, m, INVALID_KEY, events, errors);
             let cur = k.cur;
             let n = k.n;
-            answered(s, unstopped(Walk { cur, n }), events, errors)
+            answered(s, options, unstopped(Walk { cur, n }), events, errors)
         }
     }
 }
 
-pub fn parse_simple_key(s: &[u8], base: u32, events: &mut [u32], errors: &mut [u32]) -> Answer
-    ensures { λ r. ⌜ Answers simpleKeyEntry (now (s .entry)) base (now (events .entry)) (now (errors .entry)) (now (events .exit)) (now (errors .exit)) r ⌝ }
+pub fn parse_simple_key(
+    s: &[u8],
+    base: u32,
+    options: Options,
+    events: &mut [u32],
+    errors: &mut [u32],
+) -> Answer
+    ensures { λ r. ⌜ Answers options simpleKeyEntry (now (s .entry)) base (now (events .entry)) (now (errors .entry)) (now (events .exit)) (now (errors .exit)) r ⌝ }
 {
     let begun = begin(s, base);
     match begun {
         Begun::Refused(answer) => answer,
         Begun::Start(c, m) => {
             let w = simple_key(s, c, m, INVALID_KEY, events, errors);
-            answered(s, unstopped(w), events, errors)
+            answered(s, options, unstopped(w), events, errors)
         }
     }
 }
 
-pub fn parse_value(s: &[u8], base: u32, events: &mut [u32], errors: &mut [u32]) -> Answer
-    ensures { λ r. ⌜ Answers valueEntry (now (s .entry)) base (now (events .entry)) (now (errors .entry)) (now (events .exit)) (now (errors .exit)) r ⌝ }
+pub fn parse_value(
+    s: &[u8],
+    base: u32,
+    options: Options,
+    events: &mut [u32],
+    errors: &mut [u32],
+) -> Answer
+    ensures { λ r. ⌜ Answers options valueEntry (now (s .entry)) base (now (events .entry)) (now (errors .entry)) (now (events .exit)) (now (errors .exit)) r ⌝ }
 {
     let begun = begin(s, base);
     match begun {
         Begun::Refused(answer) => answer,
         Begun::Start(c, m) => {
-            let w = value(s, c, m, MAX_DEPTH, events, errors);
-            answered(s, w, events, errors)
+            let settings = Settings {
+                levels: MAX_DEPTH,
+                options,
+            };
+            let w = value(s, c, m, settings, events, errors);
+            answered(s, options, w, events, errors)
         }
     }
 }

@@ -1,3 +1,4 @@
 // The four entries. This is what programs cite.
 pub mod entries;
+pub mod modes;
 pub mod theorems;

@@ -14,6 +14,7 @@ use output::message::KEY_WITH_NO_VALUE;
 use output::message::MISSING_VALUE_FOR_KEY;
 use rules::event::Encoding;
 use rules::event::Event;
+use rules::options::Settings;
 use token::cursor::Cursor;
 use token::cursor::Step;
 use token::cursor::Token;
@@ -45,18 +46,18 @@ fn on_expression_key_val_sep(
     eq: Token,
     c: Cursor,
     m: Counts,
-    levels: u32,
+    settings: Settings,
     events: &mut [u32],
     errors: &mut [u32],
 ) -> NestWalk
     requires { ⌜ Good (now s) c ⌝ }
-    ensures { λ r. ⌜ Nested (now (s .entry)) (onExpressionKeyValSep levels (eq .start) (eq .end) (tokensAt (now (s .entry)) c)) c (bufs (now (events .entry)) (now (errors .entry)) m) (now (events .exit)) (now (errors .exit)) r ⌝ }
+    ensures { λ r. ⌜ Nested (now (s .entry)) (onExpressionKeyValSep (settings .levels) (eq .start) (eq .end) (tokensAt (now (s .entry)) c)) c (bufs (now (events .entry)) (now (errors .entry)) m) (now (events .exit)) (now (errors .exit)) r ⌝ }
 {
     let n = emit(events, m, Event::KeyValSep, eq.start, eq.end);
     let w = opt_whitespace(s, c, n, events, errors);
     let from = w.cur;
     let i = w.n;
-    let v = usual_value(s, from, i, levels, events, errors);
+    let v = usual_value(s, from, i, settings, events, errors);
     let stopped = v.stopped;
     let behind = v.cur;
     let j = v.n;
@@ -78,12 +79,12 @@ pub fn key_and_value(
     c: Cursor,
     m: Counts,
     message: u32,
-    levels: u32,
+    settings: Settings,
     events: &mut [u32],
     errors: &mut [u32],
 ) -> NestWalk
     requires { ⌜ Good (now s) c ⌝ }
-    ensures { λ r. ⌜ Expressed (now (s .entry)) (expression message levels (tokensAt (now (s .entry)) c)) c (bufs (now (events .entry)) (now (errors .entry)) m) (now (events .exit)) (now (errors .exit)) r ⌝ }
+    ensures { λ r. ⌜ Expressed (now (s .entry)) (expression message (settings .levels) (tokensAt (now (s .entry)) c)) c (bufs (now (events .entry)) (now (errors .entry)) m) (now (events .exit)) (now (errors .exit)) r ⌝ }
 {
     let w = opt_whitespace(s, c, m, events, errors);
     let mut cur = w.cur;
@@ -111,7 +112,7 @@ pub fn key_and_value(
         let z = no_equals(list, from, sofar, message, events, errors);
         return unstopped(z);
     };
-    on_expression_key_val_sep(s, eq, past, n, levels, events, errors)
+    on_expression_key_val_sep(s, eq, past, n, settings, events, errors)
 }
 
 // The first part of the key is the token t.

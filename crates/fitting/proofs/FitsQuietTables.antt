@@ -26,19 +26,19 @@ use Rattle.fitting.proofs.FitsQuietScalars.{ScalarStops, whitespace-sto
 use Rattle.fitting.proofs.FitsQuietArrays.{NestWalk, array-walk}
 use Rattle.rules.specs.Receiver as receiver
 
-module _ (P : Parts) (N : Inside) (head : Place) (nest : Nest) (nested : NestSuffix N) (walks : NestWalk P N nest) (σ : List OpenBracket) where
+module _ (P : Parts) (N : Inside) (head : Place) (opened : ℕ) (nest : Nest) (nested : NestSuffix N) (walks : NestWalk P N nest) (σ : List OpenBracket) where
   -- the walk from here, whatever turns are left if they are enough
   abbrev TableWalk : State → Bool → List Tok → List Tok → Type 0
-  TableWalk st empty ts rest = (n : ℕ) → length ts ≤ n → Walk P (turns (inlineTableTurn head nest) n (progress st empty) ts) ts rest (openInlineTable ∷ σ) σ
+  TableWalk st empty ts rest = (n : ℕ) → length ts ≤ n → Walk P (turns (inlineTableTurn head opened nest) n (progress st empty) ts) ts rest (openInlineTable ∷ σ) σ
 
-  turn : (st : State) (empty : Bool) (k : Kind) {a b : ℕ} {ts rest : List Tok} → ((n : ℕ) → length ts ≤ n → Walk P (inlineTableStep (actionOf st k) k head nest (turns (inlineTableTurn head nest) n) st empty a b ts) (tok k a b ∷ ts) rest (openInlineTable ∷ σ) σ) → TableWalk st empty (tok k a b ∷ ts) rest
+  turn : (st : State) (empty : Bool) (k : Kind) {a b : ℕ} {ts rest : List Tok} → ((n : ℕ) → length ts ≤ n → Walk P (inlineTableStep (actionOf st k) k head opened nest (turns (inlineTableTurn head opened nest) n) st empty a b ts) (tok k a b ∷ ts) rest (openInlineTable ∷ σ) σ) → TableWalk st empty (tok k a b ∷ ts) rest
   unfolding turns
   turn st empty k f zero h = absurd (not-suc-le-zero h)
   turn st empty k f (suc n) h = f n (le-of-suc-le-suc h)
 
   -- what the loop goes on to do
   abbrev go : State → ℕ → List Tok → Out
-  go st n = turns (inlineTableTurn head nest) n (progress st false)
+  go st n = turns (inlineTableTurn head opened nest) n (progress st false)
 
   space-turn : (st : State) (empty : Bool) {a b : ℕ} {ts rest : List Tok} → TableWalk st empty ts rest → TableWalk st empty (tok Whitespace a b ∷ ts) rest
   space-turn State.NeedsKey empty w = turn State.NeedsKey empty Whitespace (λ n h. walk-one readsWhitespace (w n h))
@@ -87,4 +87,4 @@ pub open-walk : (P : Parts) (levels : ℕ) → NestWalk P (Nested P levels) (onO
 unfolding onOpen Nested
 open-walk P zero σ r a b ts rest d = absurd d
 open-walk P (suc n) σ Bracket.Square a b ts rest d = walk-one readsArrayOpen (array-walk P (Nested P n) (span a b) (onOpen n) (suffix-nested P n) (open-walk P n) σ d (length ts) (le-refl _))
-open-walk P (suc n) σ Bracket.Curly a b ts rest d = walk-one readsInlineTableOpen (table-walk P (Nested P n) (span a b) (onOpen n) (suffix-nested P n) (open-walk P n) σ d (length ts) (le-refl _))
+open-walk P (suc n) σ Bracket.Curly a b ts rest d = walk-one readsInlineTableOpen (table-walk P (Nested P n) (span a b) (length ts) (onOpen n) (suffix-nested P n) (open-walk P n) σ d (length ts) (le-refl _))

@@ -78,9 +78,9 @@ pairs-wanted : {P : Parts} {N : Inside} {ts rest : List Tok} (empty : Bool) → 
 pairs-wanted true ps = somePairs noWhitespace ps
 pairs-wanted false ps = pairsFollow noWhitespace ps
 
-module _ (P : Parts) (N : Inside) (head : Place) (nest : Nest) (nested : NestSuffix N) (fits : NestFits P N nest) where
+module _ (P : Parts) (N : Inside) (head : Place) (opened : ℕ) (nest : Nest) (nested : NestSuffix N) (fits : NestFits P N nest) where
   abbrev loop : ℕ → State → Bool → List Tok → Out
-  loop n st empty = turns (inlineTableTurn head nest) n (progress st empty)
+  loop n st empty = turns (inlineTableTurn head opened nest) n (progress st empty)
 
   abbrev TableFits : ℕ → Type 0
   TableFits n = (st : State) (empty : Bool) (ts : List Tok) → length ts ≤ n → Regular ts → Quiet P (loop n st empty ts .items) → AfterState P N st empty ts (loop n st empty ts .rest)
@@ -111,14 +111,14 @@ module _ (P : Parts) (N : Inside) (head : Place) (nest : Nest) (nested : NestSuf
       let s = scalar-fits v a b ts in
       value-fits n ih (onScalar k a b ts) (aScalar s) (le-trans (scalar-length s) h) (suffix-regular (suffix-scalar s) g) q
 
-  close-fits : (empty : Bool) (a b : ℕ) (ts : List Tok) → Quiet P ((trailing empty State.NeedsKey head a b ts ▸ receiver.inlineTableClose a b ▹ done ts) .items) → AfterState P N State.NeedsKey empty (tok RightCurlyBracket a b ∷ ts) ts
+  close-fits : (empty : Bool) (a b : ℕ) (ts : List Tok) → Quiet P ((trailing empty State.NeedsKey head opened a (suc (length ts)) ▸ receiver.inlineTableClose a b ▹ done ts) .items) → AfterState P N State.NeedsKey empty (tok RightCurlyBracket a b ∷ ts) ts
   close-fits true a b ts q = noPairs noWhitespace
   close-fits false a b ts q = absurd q
 
   abbrev Step : ℕ → State → Bool → Kind → Type 0
   Step n st empty k = (a b : ℕ) (ts : List Tok) → length ts ≤ n → Regular (tok k a b ∷ ts)
-      → Quiet P (inlineTableStep (actionOf st k) k head nest (turns (inlineTableTurn head nest) n) st empty a b ts .items)
-      → AfterState P N st empty (tok k a b ∷ ts) (inlineTableStep (actionOf st k) k head nest (turns (inlineTableTurn head nest) n) st empty a b ts .rest)
+      → Quiet P (inlineTableStep (actionOf st k) k head opened nest (turns (inlineTableTurn head opened nest) n) st empty a b ts .items)
+      → AfterState P N st empty (tok k a b ∷ ts) (inlineTableStep (actionOf st k) k head opened nest (turns (inlineTableTurn head opened nest) n) st empty a b ts .rest)
 
   key-step : (n : ℕ) → TableFits n → (empty : Bool) (k : Kind) → Step n State.NeedsKey empty k
   key-step n ih empty Dot a b ts h g q = absurd (q .0 .0 refl)
@@ -216,4 +216,4 @@ pub open-fits : (P : Parts) (levels : ℕ) → NestFits P (Nested P levels) (onO
 unfolding onOpen Nested
 open-fits P zero r a b ts g q = absurd q
 open-fits P (suc n) Bracket.Square a b ts g q = values-fit P (Nested P n) (span a b) (onOpen n) (suffix-nested P n) (open-fits P n) ts g (q .1)
-open-fits P (suc n) Bracket.Curly a b ts g q = pairs-fit P (Nested P n) (span a b) (onOpen n) (suffix-nested P n) (open-fits P n) ts g (q .1)
+open-fits P (suc n) Bracket.Curly a b ts g q = pairs-fit P (Nested P n) (span a b) (length ts) (onOpen n) (suffix-nested P n) (open-fits P n) ts g (q .1)

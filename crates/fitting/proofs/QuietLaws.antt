@@ -13,8 +13,10 @@ use Rattle.token.specs.Tokens.{Tok, allTokens}
 use Rattle.token.specs.Check.{checked}
 use Rattle.token.specs.CheckLaws.{refused-number}
 use Rattle.rules.specs.declared.event.Event.{Event}
-use Rattle.rules.specs.Out.{Item, event, eventAfter, report, stop}
+use Rattle.rules.specs.Out.{Item, event, eventAfter, report, trailingComma, stop}
 use Rattle.rules.specs.Entries.{Entry, parse}
+use Rattle.rules.specs.declared.options.Mode.{Mode}
+use Rattle.rules.specs.declared.options.Options.{Options}
 use Rattle.rules.specs.Words.{eventsOf, errorsOf, Halt, ended, refusedLevel, haltOf}
 use Rattle.rules.specs.Answer.{eventSize, errorSize, Outcome, joined, filled, refusalBy, walked, outcomeBy, outcome}
 use Rattle.fitting.specs.Grammar.{Parts, AnyKind}
@@ -28,14 +30,16 @@ quiet-ended P [] q = refl
 quiet-ended P (event g a b ∷ is) q = quiet-ended P is (q .1)
 quiet-ended P (eventAfter g l ∷ is) q = absurd q
 quiet-ended P (report m x c u ∷ is) q = absurd q
+quiet-ended P (trailingComma head opened left start ∷ is) q = absurd q
 quiet-ended P (stop n ∷ is) q = absurd q
 
-pub quiet-errorless : (all : List Tok) (is : List Item) → Quiet AnyKind is → errorsOf all is ≡ []
-quiet-errorless all [] q = refl
-quiet-errorless all (event g a b ∷ is) q = quiet-errorless all is (q .1)
-quiet-errorless all (eventAfter g l ∷ is) q = absurd q
-quiet-errorless all (report m x c u ∷ is) q = absurd q
-quiet-errorless all (stop n ∷ is) q = absurd q
+pub quiet-errorless : (mode : Mode) (all : List Tok) (is : List Item) → Quiet AnyKind is → errorsOf mode all is ≡ []
+quiet-errorless mode all [] q = refl
+quiet-errorless mode all (event g a b ∷ is) q = quiet-errorless mode all is (q .1)
+quiet-errorless mode all (eventAfter g l ∷ is) q = absurd q
+quiet-errorless mode all (report m x c u ∷ is) q = absurd q
+quiet-errorless mode all (trailingComma head opened left start ∷ is) q = absurd q
+quiet-errorless mode all (stop n ∷ is) q = absurd q
 
 -- word 2 of event i is its start, word 3 its end
 abbrev pub EmptyAt : List (List ℕ) → ℕ → Type 0
@@ -47,6 +51,7 @@ quiet-nonempty all (event g a b ∷ is) q zero h e = q .0 .0 e
 quiet-nonempty all (event g a b ∷ is) q (suc i) h e = quiet-nonempty all is (q .1) i (omega arith) e
 quiet-nonempty all (eventAfter g l ∷ is) q i h e = absurd q
 quiet-nonempty all (report m x c u ∷ is) q i h e = absurd q
+quiet-nonempty all (trailingComma head opened left start ∷ is) q i h e = absurd q
 quiet-nonempty all (stop n ∷ is) q i h e = absurd q
 
 -- any kind will do
@@ -74,12 +79,13 @@ abbrev IsEnded : Halt → Type 0
 IsEnded ended = Unit {0}
 IsEnded (refusedLevel n) = ⊥
 
-pub quiet-items : (all : List Tok) (is : List Item) → haltOf is ≡ ended → length (errorsOf all is) ≡ 0 → ((i : ℕ) → i < length (eventsOf all is) → EmptyAt (eventsOf all is) i → ⊥) → Quiet AnyKind is
-quiet-items all [] t z h = tt
-quiet-items all (event g a b ∷ is) t z h = ((λ e. h 0 (omega arith) e, any-key g), quiet-items all is t z (λ i l e. h (suc i) (omega arith) e))
-quiet-items all (eventAfter g l ∷ is) t z h = h 0 (omega arith) refl
-quiet-items all (report m x c u ∷ is) t z h = omega arith
-quiet-items all (stop n ∷ is) t z h = subst IsEnded (sym t) tt
+pub quiet-items : (mode : Mode) (all : List Tok) (is : List Item) → haltOf is ≡ ended → length (errorsOf mode all is) ≡ 0 → ((i : ℕ) → i < length (eventsOf all is) → EmptyAt (eventsOf all is) i → ⊥) → Quiet AnyKind is
+quiet-items mode all [] t z h = tt
+quiet-items mode all (event g a b ∷ is) t z h = ((λ e. h 0 (omega arith) e, any-key g), quiet-items mode all is t z (λ i l e. h (suc i) (omega arith) e))
+quiet-items mode all (eventAfter g l ∷ is) t z h = h 0 (omega arith) refl
+quiet-items mode all (report m x c u ∷ is) t z h = omega arith
+quiet-items mode all (trailingComma head opened left start ∷ is) t z h = omega arith
+quiet-items mode all (stop n ∷ is) t z h = subst IsEnded (sym t) tt
 
 -- no refusal: the walk went to its end, and both lists fit
 none-refused : (t : Halt) (shortEvents shortErrors : Bool) → refusalBy t shortEvents shortErrors ≡ 0 → (t ≡ ended) × (shortEvents ≡ false) × (shortErrors ≡ false)
@@ -88,9 +94,9 @@ none-refused ended false true e = absurd (omega (arith, e))
 none-refused ended false false e = (refl, refl, refl)
 none-refused (refusedLevel n) a b e = absurd (omega (arith, e))
 
-module _ (all : List Tok) (is : List Item) (evs ers : List ℕ) where
+module _ (mode : Mode) (all : List Tok) (is : List Item) (evs ers : List ℕ) where
   -- a quiet run of the outcome: its events fit
-  pub quiet-fits : QuietRun (walked all is evs ers) → length (eventsOf all is) ≤ length evs / eventSize
+  pub quiet-fits : QuietRun (walked mode all is evs ers) → length (eventsOf all is) ≤ length evs / eventSize
   unfolding walked
   quiet-fits q = ltb-false _ _ (none-refused (haltOf is) _ _ (q .accepted) .1)
 
@@ -99,19 +105,19 @@ module _ (all : List Tok) (is : List Item) (evs ers : List ℕ) where
       → getD (filled eventSize (eventsOf all is) evs) (i * eventSize + j) 0 ≡ getD (getD (eventsOf all is) i []) j 0
   word-at i j h l m = word-in evs i j 0 (events-sized all is) h l m
 
-  pub quiet-run-items : QuietRun (walked all is evs ers) → Quiet AnyKind is
+  pub quiet-run-items : QuietRun (walked mode all is evs ers) → Quiet AnyKind is
   unfolding walked
   quiet-run-items q =
       let fits = quiet-fits q in
-      quiet-items all is (none-refused (haltOf is) _ _ (q .accepted) .0) (q .errorless)
+      quiet-items mode all is (none-refused (haltOf is) _ _ (q .accepted) .0) (q .errorless)
       (λ i l e. q .nonempty i l (word-at i 2 fits l (omega arith) ∙ e ∙ sym (word-at i 3 fits l (omega arith))))
 
-  pub quiet-items-run : Quiet AnyKind is → length (eventsOf all is) ≤ length evs / eventSize → QuietRun (walked all is evs ers)
+  pub quiet-items-run : Quiet AnyKind is → length (eventsOf all is) ≤ length evs / eventSize → QuietRun (walked mode all is evs ers)
   unfolding walked
   quiet-items-run q h =
       record {
-        accepted = simp (quiet-ended AnyKind is q, quiet-errorless all is q, le-ltb _ _ h, le-ltb (length ers / errorSize) 0 (omega arith));
-        errorless = ap length (quiet-errorless all is q);
+        accepted = simp (quiet-ended AnyKind is q, quiet-errorless mode all is q, le-ltb _ _ h, le-ltb (length ers / errorSize) 0 (omega arith));
+        errorless = ap length (quiet-errorless mode all is q);
         nonempty = λ i l e. quiet-nonempty all is q i l (sym (word-at i 2 h l (omega arith)) ∙ e ∙ word-at i 3 h l (omega arith));
       }
 
@@ -121,46 +127,46 @@ pub record QuietOutcome (P : Parts) (e : Entry) (s : List ℕ) (base : ℕ) (evs
   pub quiet : Quiet P (parse e (allTokens s base) .items)
   pub fits : length (eventsOf (allTokens s base) (parse e (allTokens s base) .items)) ≤ length evs / eventSize
 
-module _ (e : Entry) (s : List ℕ) (base : ℕ) (evs ers : List ℕ) where
+module _ (options : Options) (e : Entry) (s : List ℕ) (base : ℕ) (evs ers : List ℕ) where
   -- refusals 1 to 5 are no quiet run
-  by-check : (c : Checked) → checked s base ≡ c → QuietRun (outcomeBy c e s base evs ers) → checked s base ≡ Checked.Passed
+  by-check : (c : Checked) → checked s base ≡ c → QuietRun (outcomeBy c options e s base evs ers) → checked s base ≡ Checked.Passed
   by-check Checked.Passed h q = h
   by-check (Checked.Refused r i) h q = absurd (refused-number s base r i h (q .accepted))
 
-  pub quiet-passed : QuietRun (outcome e s base evs ers) → checked s base ≡ Checked.Passed
+  pub quiet-passed : QuietRun (outcome options e s base evs ers) → checked s base ≡ Checked.Passed
   unfolding outcome
   quiet-passed q = by-check (checked s base) refl q
 
   -- nor are 6, 7 and 8: the items are quiet, with which the walk goes to its end and reports nothing, and the events fit
-  pub quiet-outcome : QuietRun (outcome e s base evs ers) → QuietOutcome AnyKind e s base evs
+  pub quiet-outcome : QuietRun (outcome options e s base evs ers) → QuietOutcome AnyKind e s base evs
   quiet-outcome q =
       let p = quiet-passed q in
-      let w = subst QuietRun (passed-outcome e s base evs ers p) q in
-      record { passed = p; quiet = quiet-run-items (allTokens s base) (parse e (allTokens s base) .items) evs ers w; fits = quiet-fits (allTokens s base) (parse e (allTokens s base) .items) evs ers w }
+      let w = subst QuietRun (passed-outcome options e s base evs ers p) q in
+      record { passed = p; quiet = quiet-run-items (options .mode) (allTokens s base) (parse e (allTokens s base) .items) evs ers w; fits = quiet-fits (options .mode) (allTokens s base) (parse e (allTokens s base) .items) evs ers w }
 
-  pub outcome-quiet : QuietOutcome AnyKind e s base evs → QuietRun (outcome e s base evs ers)
+  pub outcome-quiet : QuietOutcome AnyKind e s base evs → QuietRun (outcome options e s base evs ers)
   outcome-quiet q =
-      subst QuietRun (sym (passed-outcome e s base evs ers (q .passed)))
-      (quiet-items-run (allTokens s base) (parse e (allTokens s base) .items) evs ers (q .quiet) (q .fits))
+      subst QuietRun (sym (passed-outcome options e s base evs ers (q .passed)))
+      (quiet-items-run (options .mode) (allTokens s base) (parse e (allTokens s base) .items) evs ers (q .quiet) (q .fits))
 
-  pub quiet-iff : QuietRun (outcome e s base evs ers) ↔ QuietOutcome AnyKind e s base evs
+  pub quiet-iff : QuietRun (outcome options e s base evs ers) ↔ QuietOutcome AnyKind e s base evs
   quiet-iff = (quiet-outcome, outcome-quiet)
 
 -- the same of an outcome: the words of as many events as it counts
 abbrev pub eventWordsOf : Outcome → List ℕ
 eventWordsOf o = take (eventSize * o .answer .events) (o .events)
 
-pub events-read : (e : Entry) (s : List ℕ) (base : ℕ) (evs ers : List ℕ) → QuietRun (outcome e s base evs ers)
-    → eventWordsOf (outcome e s base evs ers) ≡ joined (eventsOf (allTokens s base) (parse e (allTokens s base) .items))
+pub events-read : (options : Options) (e : Entry) (s : List ℕ) (base : ℕ) (evs ers : List ℕ) → QuietRun (outcome options e s base evs ers)
+    → eventWordsOf (outcome options e s base evs ers) ≡ joined (eventsOf (allTokens s base) (parse e (allTokens s base) .items))
 unfolding walked
-events-read e s base evs ers q =
-    let o = quiet-outcome e s base evs ers q in
-    ap eventWordsOf (passed-outcome e s base evs ers (o .passed)) ∙ events-in-buffer (allTokens s base) (parse e (allTokens s base) .items) evs (o .fits)
+events-read options e s base evs ers q =
+    let o = quiet-outcome options e s base evs ers q in
+    ap eventWordsOf (passed-outcome options e s base evs ers (o .passed)) ∙ events-in-buffer (allTokens s base) (parse e (allTokens s base) .items) evs (o .fits)
 
 -- two quiet runs with the same words of events have the same events
-pub same-events : (e : Entry) (s t : List ℕ) (base to : ℕ) (evs ers evs′ ers′ : List ℕ) → QuietRun (outcome e s base evs ers) → QuietRun (outcome e t to evs′ ers′)
-    → eventWordsOf (outcome e s base evs ers) ≡ eventWordsOf (outcome e t to evs′ ers′)
+pub same-events : (options other : Options) (e : Entry) (s t : List ℕ) (base to : ℕ) (evs ers evs′ ers′ : List ℕ) → QuietRun (outcome options e s base evs ers) → QuietRun (outcome other e t to evs′ ers′)
+    → eventWordsOf (outcome options e s base evs ers) ≡ eventWordsOf (outcome other e t to evs′ ers′)
     → eventsOf (allTokens s base) (parse e (allTokens s base) .items) ≡ eventsOf (allTokens t to) (parse e (allTokens t to) .items)
-same-events e s t base to evs ers evs′ ers′ q r h =
+same-events options other e s t base to evs ers evs′ ers′ q r h =
     events-known (allTokens s base) (allTokens t to) (parse e (allTokens s base) .items) (parse e (allTokens t to) .items)
-    (sym (events-read e s base evs ers q) ∙ h ∙ events-read e t to evs′ ers′ r)
+    (sym (events-read options e s base evs ers q) ∙ h ∙ events-read other e t to evs′ ers′ r)

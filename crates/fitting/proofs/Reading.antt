@@ -8,7 +8,7 @@ use Rattle.token.specs.declared.kind.Kind.the-variants.{Dot, Equals, Comma, Lef
 use Rattle.token.specs.Tokens.{Tok, tok}
 use Rattle.rules.specs.declared.event.Encoding.{Encoding}
 use Rattle.rules.specs.declared.event.Event.{Event}
-use Rattle.rules.specs.Out.{Item, event, eventAfter, report, stop, Out, done, _▹_, _▸_, _then_}
+use Rattle.rules.specs.Out.{Item, event, eventAfter, report, trailingComma, stop, Out, done, _▹_, _▸_, _then_}
 use Rattle.rules.specs.InlineTable.{encodingAt}
 use Rattle.fitting.specs.Quiet.{Quiet}
 use Rattle.fitting.specs.Grammar.{AnyString, Parts, KeyPart, DotOrAtom, UnquotedRest, Scalar}
@@ -76,6 +76,7 @@ quiet-left P [] js q = tt
 quiet-left P (event g a b ∷ is) js q = (q .0, quiet-left P is js (q .1))
 quiet-left P (eventAfter g l ∷ is) js q = q
 quiet-left P (report m x c u ∷ is) js q = q
+quiet-left P (trailingComma head opened left start ∷ is) js q = q
 quiet-left P (stop n ∷ is) js q = q
 
 pub quiet-right : (P : Parts) (is js : List Item) → Quiet P (is ++ js) → Quiet P js
@@ -83,6 +84,7 @@ quiet-right P [] js q = q
 quiet-right P (event g a b ∷ is) js q = quiet-right P is js (q .1)
 quiet-right P (eventAfter g l ∷ is) js q = absurd q
 quiet-right P (report m x c u ∷ is) js q = absurd q
+quiet-right P (trailingComma head opened left start ∷ is) js q = absurd q
 quiet-right P (stop n ∷ is) js q = absurd q
 
 pub quiet-then : (P : Parts) (o : Out) (f : List Tok → Out) → Quiet P ((o then f) .items) → Quiet P (o .items) × Quiet P (f (o .rest) .items)

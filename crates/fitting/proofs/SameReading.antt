@@ -12,7 +12,7 @@ use Rattle.token.specs.Tokens.{Tok, tok}
 use Rattle.token.specs.Laid.{Laid, laidToken}
 use Rattle.rules.specs.declared.event.Encoding.{Encoding}
 use Rattle.rules.specs.declared.event.Event.{Event}
-use Rattle.rules.specs.Out.{Item, event, eventAfter, report, stop}
+use Rattle.rules.specs.Out.{Item, event, eventAfter, report, trailingComma, stop}
 use Rattle.rules.specs.InlineTable.{encodingAt}
 use Rattle.rules.specs.Words.{eventNumber, encodingOf, eventsOf}
 use Rattle.fitting.specs.Quiet.{kindByEncoding, Quiet}
@@ -219,6 +219,7 @@ items-back P all [] q = refl
 items-back P all (event g a b ∷ is) q = λ i. event (event-back g i) a b ∷ items-back P all is (q .1) i
 items-back P all (eventAfter g l ∷ is) q = absurd q
 items-back P all (report m x c u ∷ is) q = absurd q
+items-back P all (trailingComma head opened left start ∷ is) q = absurd q
 items-back P all (stop n ∷ is) q = absurd q
 
 -- quiet runs with the same event words have the same items

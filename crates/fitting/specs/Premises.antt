@@ -11,6 +11,7 @@ use Rattle.token.specs.declared.kind.Kind.the-variants.{Dot, Equals, Comma, Lef
 use Rattle.token.specs.declared.checked.Checked.{Checked}
 use Rattle.token.specs.Tokens.{Tok, tok, allTokens}
 use Rattle.token.specs.Check.{checked}
+use Rattle.rules.specs.declared.options.Options.{Options}
 use Rattle.rules.specs.Entries.{documentEntry}
 use Rattle.rules.specs.Answer.{eventSize, Outcome, outcome}
 use Rattle.fitting.specs.Grammar.{DotOrAtom, UnquotedRest, scalarEnds, dotOrAtom, whitespaceAtom}
@@ -69,16 +70,16 @@ pub record Regular (ts : List Tok) : Type 0 where
   pub apart : NoAdjacentWhitespace ts
 
 -- a run of the document entry on the record bytes s, with the two buffers
-abbrev pub documentRun : List ℕ → ℕ → List ℕ → List ℕ → Outcome
-documentRun s base events errors = outcome documentEntry s base events errors
+abbrev pub documentRun : Options → List ℕ → ℕ → List ℕ → List ℕ → Outcome
+documentRun options s base events errors = outcome options documentEntry s base events errors
 
 -- what is supposed, for a list that fits to be quiet, of the record bytes s, the base and the two buffers. The check lets the list pass, so
 -- refusals 1 to 5 do not come; nor does 7, so the events fit. Errors there are none (8), and the depth (6) is said with `FitsWithin` or
 -- `NestedWithin`.
-pub record Ready (s : List ℕ) (base : ℕ) (events errors : List ℕ) : Type 0 where
+pub record Ready (options : Options) (s : List ℕ) (base : ℕ) (events errors : List ℕ) : Type 0 where
   pub passed : checked s base ≡ Checked.Passed
   pub regular : Regular (allTokens s base)
-  pub room : documentRun s base events errors .answer .refusal ≡ 7 → ⊥
+  pub room : documentRun options s base events errors .answer .refusal ≡ 7 → ⊥
 
 -- where the text ends, of which the tokens begin at p
 abbrev pub textEnd : ℕ → List Tok → ℕ

@@ -10,7 +10,7 @@ use Rattle.token.specs.declared.kind.Kind.{Kind}
 use Rattle.token.specs.declared.kind.Kind.the-variants.{LiteralString, BasicString, MlLiteralString, MlBasicString, Atom}
 use Rattle.rules.specs.declared.event.Encoding.{Encoding}
 use Rattle.rules.specs.declared.event.Event.{Event}
-use Rattle.rules.specs.Out.{Item, event, eventAfter, report, stop}
+use Rattle.rules.specs.Out.{Item, event, eventAfter, report, trailingComma, stop}
 use Rattle.rules.specs.Answer.{eventSize, Outcome}
 use Rattle.fitting.specs.Grammar.{Parts}
 
@@ -48,6 +48,7 @@ Quiet P [] = Unit {0}
 Quiet P (event g a b ∷ is) = ((a ≡ b → ⊥) × KeyIn P g) × Quiet P is
 Quiet P (eventAfter g l ∷ is) = ⊥
 Quiet P (report m x c u ∷ is) = ⊥
+Quiet P (trailingComma head opened left start ∷ is) = ⊥
 Quiet P (stop n ∷ is) = ⊥
 
 -- of an answer and its events: word 2 of an event is its start, word 3 its end

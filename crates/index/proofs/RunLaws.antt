@@ -11,6 +11,7 @@ use Rattle.rules.specs.Entries.{documentEntry}
 use Rattle.rules.specs.Answer.{eventSize}
 use Rattle.fitting.specs.Quiet.{QuietRun}
 use Rattle.fitting.specs.Grammar.{UnquotedRest, scalarEnds, dotOrAtom, whitespaceAtom}
+use Rattle.rules.specs.declared.options.Options.{Options}
 use Rattle.fitting.specs.Premises.{Regular, documentRun, eventsIn, eventsLeft, SameButForCuts, sameRest, sameToken, sameTwoTokens, cutOtherwise}
 use Rattle.rules.proofs.OutcomeLaws.{counted-events, event-room}
 use Rattle.fitting.proofs.QuietLaws.{quiet-outcome}
@@ -38,18 +39,18 @@ events-counted zero buffer = refl
 events-counted (suc n) buffer = ap suc (events-counted n (drop eventSize buffer))
 
 -- what the theorem about the rules says of a run compared with itself
-abbrev pub SameAsItself : List ℕ → ℕ → List ℕ → List ℕ → Type 0
-SameAsItself s base events errors =
-    Regular (allTokens s base) → Regular (allTokens s base) → QuietRun (documentRun s base events errors) → QuietRun (documentRun s base events errors)
-    → eventsLeft (documentRun s base events errors) ≡ eventsLeft (documentRun s base events errors) → SameButForCuts (eventsLeft (documentRun s base events errors)) (allTokens s base) (allTokens s base)
+abbrev pub SameAsItself : Options → List ℕ → ℕ → List ℕ → List ℕ → Type 0
+SameAsItself options s base events errors =
+    Regular (allTokens s base) → Regular (allTokens s base) → QuietRun (documentRun options s base events errors) → QuietRun (documentRun options s base events errors)
+    → eventsLeft (documentRun options s base events errors) ≡ eventsLeft (documentRun options s base events errors) → SameButForCuts (eventsLeft (documentRun options s base events errors)) (allTokens s base) (allTokens s base)
 
-pub quiet-indexable : (s : List ℕ) (base : ℕ) (events errors : List ℕ) → SameAsItself s base events errors
-    → Regular (allTokens s base) → QuietRun (documentRun s base events errors) → Indexable (documentRun s base events errors .answer) (documentRun s base events errors .events)
-quiet-indexable s base events errors cited g q =
-    let run = documentRun s base events errors in
-    let o = quiet-outcome documentEntry s base events errors q in
-    let counted = counted-events documentEntry s base events errors (o .passed) in
-    let room = event-room documentEntry s base events errors in
+pub quiet-indexable : (options : Options) (s : List ℕ) (base : ℕ) (events errors : List ℕ) → SameAsItself options s base events errors
+    → Regular (allTokens s base) → QuietRun (documentRun options s base events errors) → Indexable (documentRun options s base events errors .answer) (documentRun options s base events errors .events)
+quiet-indexable options s base events errors cited g q =
+    let run = documentRun options s base events errors in
+    let o = quiet-outcome options documentEntry s base events errors q in
+    let counted = counted-events options documentEntry s base events errors (o .passed) in
+    let room = event-room options documentEntry s base events errors in
     let fits = o .fits in
     let few = events-few (cited g g q q refl) in
     let left = events-counted (run .answer .events) (run .events) in

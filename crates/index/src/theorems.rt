@@ -3,6 +3,7 @@ use fitting::theorems::quiet_events_determine_tokens;
 use rules::answer::Answer;
 ghost use Rattle.token.specs.Tokens.{allTokens};
 ghost use Rattle.fitting.specs.Quiet.{QuietRun};
+ghost use Rattle.rules.specs.declared.options.Options.{Options};
 ghost use Rattle.fitting.specs.Premises.{Regular, documentRun};
 ghost use Rattle.index.specs.Outcome.{IndexDetermined, Indexable};
 ghost use Rattle.index.specs.Reads.{IndexReads};
@@ -21,9 +22,10 @@ pub fn indexes_are_determined(answer: Answer, events: &[u32], index: &[u8])
 // A quiet run of the document entry over a list that meets the premises is never refused as not quiet: it has no more events than records, so
 // every place fits in two bytes.
 pub fn quiet_runs_are_indexable(s: &[u8], base: u32, events: &[u32], errors: &[u32])
-    ensures { λ _. ⌜ (Regular (allTokens (now (s .entry)) base)
-        → QuietRun (documentRun (now (s .entry)) base (now (events .entry)) (now (errors .entry)))
-        → Indexable (documentRun (now (s .entry)) base (now (events .entry)) (now (errors .entry)) .answer) (documentRun (now (s .entry)) base (now (events .entry)) (now (errors .entry)) .events)) ⌝ }
+    ensures { λ _. ⌜ ((options : Options)
+        → Regular (allTokens (now (s .entry)) base)
+        → QuietRun (documentRun options (now (s .entry)) base (now (events .entry)) (now (errors .entry)))
+        → Indexable (documentRun options (now (s .entry)) base (now (events .entry)) (now (errors .entry)) .answer) (documentRun options (now (s .entry)) base (now (events .entry)) (now (errors .entry)) .events)) ⌝ }
 {
     quiet_events_determine_tokens(s, s, base, events, errors, events, errors)
 }

@@ -1,21 +1,14 @@
--- What an inline table is made of: its reports, its keys, and the rows of its table of actions. Assumes nothing.
+-- What an inline table is made of: its keys, and the rows of its table of actions. Assumes nothing.
 use mathlib.Core.List.{List, [], _∷_}
 use Prim.Native.Nat.{ℕ}
-use Rattle.token.specs.Tokens.{Tok}
 use Rattle.token.specs.declared.kind.Kind.{Kind}
 use Rattle.rules.specs.declared.event.Encoding.{Encoding}
 use Rattle.rules.specs.declared.inline_table.State.{State}
 use Rattle.rules.specs.declared.inline_table.Action.{Action}
 use Rattle.rules.specs.declared.inline_table.Action.the-variants as A
-use Rattle.rules.specs.Out.{Place, found, Item, report}
-use Rattle.rules.specs.Messages as message
-use Rattle.rules.specs.Expected as expected
+use Rattle.rules.specs.Out.{Item}
 use Rattle.rules.specs.Receiver as receiver
-use Rattle.rules.specs.InlineTable.{actions, lastComma, encodingAt}
-
--- the report of a trailing comma
-abbrev pub blamed : Place → ℕ → ℕ → List Tok → List Item
-blamed head a b ts = report message.trailingComma expected.nothing head (found (lastComma a b ts)) ∷ []
+use Rattle.rules.specs.InlineTable.{actions, encodingAt}
 
 -- the part of a key that a token is, and one that is not there
 abbrev pub keyItem : Kind → ℕ → ℕ → Item

@@ -6,28 +6,25 @@ use output::emitting::Counts;
 use output::emitting::Walk;
 use output::emitting::emit;
 use output::emitting::empty_key;
-use output::emitting::report;
 use output::emitting::report_before;
-use output::expected::NOTHING;
-use output::message::TRAILING_COMMA;
+use output::emitting::report_trailing_comma;
 use rules::event::Event;
 use rules::inline_table::Progress;
 use rules::inline_table::State;
 use token::cursor::Cursor;
-use token::cursor::Sought;
 use token::cursor::Token;
-use token::span::Span;
 ghost use mathlib.Core.Path.{_≡_};
 ghost use mathlib.Core.List.{List, _∷_};
-ghost use Prim.Native.Nat.{ℕ};
-ghost use Rattle.token.specs.Tokens.{Tok, tok, Good, tokensAt, allTokens};
+ghost use Prim.Native.Nat.{ℕ, _-_};
+ghost use lib.ListN.{length};
+ghost use Rattle.token.specs.Tokens.{Tok, tok, Good, tokensAt};
 ghost use Rattle.rules.specs.Out.{span, before, report, _▹_};
 ghost use Rattle.rules.specs.Keys.{optDotKeys};
 ghost use Rattle.rules.specs.InlineTable.{wanted, refused, trailing};
 ghost use Rattle.output.specs.Pour.{bufs, put, pour};
 ghost use Rattle.output.specs.Walks.{Goes};
 ghost use Rattle.key_dots.specs.KeyWalks.{ReadDot};
-ghost use Rattle.inline_parts.specs.Parts.{blamed, keyItem, emptyKey};
+ghost use Rattle.inline_parts.specs.Parts.{keyItem, emptyKey};
 
 // The report of what the state wants, before t.
 pub fn missing(
@@ -61,18 +58,18 @@ pub fn refuse(
     emit(events, m, Event::Error, t.start, t.end)
 }
 
-// A `}` where something was read and no comma is wanted: the nearest earlier comma is to blame.
+// A `}` where something was read and no comma is wanted: a comma before it is to blame. `at` is the record of the `}`, and `opened` the one
+// behind the `{` of its table.
 pub fn trailing_comma(
-    s: &[u8],
-    c: Cursor,
+    at: usize,
+    opened: usize,
     n: Counts,
     p: Progress,
     head: Token,
     t: Token,
     errors: &mut [u32],
 ) -> Counts
-    requires { ⌜ Good (now s) c ⌝ }
-    ensures { λ r. ⌜ ((base : ℕ) (events : List ℕ) → c .base ≡ base → bufs events (now (errors .exit)) r ≡ pour (allTokens (now (s .entry)) base) (trailing (p .empty) (p .state) (span (head .start) (head .end)) (t .start) (t .end) (tokensAt (now (s .entry)) c)) (bufs events (now (errors .entry)) n)) ⌝ }
+    ensures { λ r. ⌜ ((all : List Tok) (events : List ℕ) (behind left : ℕ) → opened ≡ length all - behind → at ≡ length all - left → bufs events (now (errors .exit)) r ≡ pour all (trailing (p .empty) (p .state) (span (head .start) (head .end)) behind (t .start) left) (bufs events (now (errors .entry)) n)) ⌝ }
 {
     let empty = p.empty;
     if empty {
@@ -80,35 +77,11 @@ pub fn trailing_comma(
     }
     let state = p.state;
     match state {
-        State::NeedsKey => blame_comma(s, c, n, head, t, errors),
-        State::NeedsEquals => blame_comma(s, c, n, head, t, errors),
-        State::NeedsValue => blame_comma(s, c, n, head, t, errors),
+        State::NeedsKey => report_trailing_comma(errors, n, head, opened, at, t.start),
+        State::NeedsEquals => report_trailing_comma(errors, n, head, opened, at, t.start),
+        State::NeedsValue => report_trailing_comma(errors, n, head, opened, at, t.start),
         State::NeedsComma => n,
     }
-}
-
-fn blame_comma(s: &[u8], c: Cursor, n: Counts, head: Token, t: Token, errors: &mut [u32]) -> Counts
-    requires { ⌜ Good (now s) c ⌝ }
-    ensures { λ r. ⌜ ((base : ℕ) (events : List ℕ) → c .base ≡ base → bufs events (now (errors .exit)) r ≡ pour (allTokens (now (s .entry)) base) (blamed (span (head .start) (head .end)) (t .start) (t .end) (tokensAt (now (s .entry)) c)) (bufs events (now (errors .entry)) n)) ⌝ }
-{
-    let comma = c.nearest_before(
-        s,
-        Sought::Comma,
-        Span {
-            start: t.start,
-            end: t.start,
-        },
-    );
-    report(
-        errors,
-        n,
-        TRAILING_COMMA,
-        NOTHING,
-        head.start,
-        head.end,
-        comma.start,
-        comma.end,
-    )
 }
 
 // The key that begins with t.

@@ -1,8 +1,12 @@
 -- Turns in inline tables, a token at a time. Assumes nothing.
 use mathlib.Core.Path.{_≡_, refl, sym, subst, _∙_}
 use mathlib.Core.List.{List}
-use Prim.Native.Nat.{ℕ}
-use Rattle.token.specs.Tokens.{Tok, tokensAt, Took}
+use Prim.Native.Nat.{ℕ, suc, _-_, _≤_}
+use native.Mathlib.Omega.{arith}
+use lib.ListN.{length}
+use Rattle.token.specs.Records.{count}
+use Rattle.token.specs.Tokens.{Tok, allTokens, tokensAt, Took}
+use Rattle.token.specs.CursorLaws.{all-length, left-length}
 use Rattle.token.specs.declared.kind.Kind.{Kind}
 use Rattle.token.specs.declared.kind.Kind.the-variants.{Dot, Equals, Comma, LeftSquareBracket, RightSquareBracket, LeftCurlyBracket, RightCurlyBracket, Whitespace, Comment, Newline, LiteralString, BasicString, MlLiteralString, MlBasicString, Atom, Eof}
 use Rattle.token.specs.declared.cursor.Token.{Token}
@@ -23,10 +27,10 @@ use Rattle.array_parts.specs.Turning.{Turned}
 use Rattle.inline_turns.specs.declared.table_turn.TableTurn.{TableTurn}
 
 -- inline tables: the token that was read, by the action of the state at its kind
-pub table-at : (s : List ℕ) (c d : Cursor) (t : Token) → Took s c t d → (x y : Action) (p : Progress) → x ≡ actionOf (p .state) (t .kind) → x ≡ y → (all : List Tok) (o : Bufs) (head : Place) (nest : Nest) (loop : Progress → List Tok → Out)
-    → run all (inlineTableTurn head nest loop p (tokensAt s c)) o ≡ run all (inlineTableStep y (t .kind) head nest loop (p .state) (p .empty) (t .start) (t .end) (tokensAt s d)) o
-table-at s c d t k x y p e q all o head nest loop =
-    at-token all o s c d t (inlineTableTurn head nest loop p) (actionOf (p .state)) (λ z. inlineTableStep z (t .kind) head nest loop (p .state) (p .empty) (t .start) (t .end) (tokensAt s d)) x y k refl e q
+pub table-at : (s : List ℕ) (c d : Cursor) (t : Token) → Took s c t d → (x y : Action) (p : Progress) → x ≡ actionOf (p .state) (t .kind) → x ≡ y → (all : List Tok) (o : Bufs) (head : Place) (opened : ℕ) (nest : Nest) (loop : Progress → List Tok → Out)
+    → run all (inlineTableTurn head opened nest loop p (tokensAt s c)) o ≡ run all (inlineTableStep y (t .kind) head opened nest loop (p .state) (p .empty) (t .start) (t .end) (tokensAt s d)) o
+table-at s c d t k x y p e q all o head opened nest loop =
+    at-token all o s c d t (inlineTableTurn head opened nest loop p) (actionOf (p .state)) (λ z. inlineTableStep z (t .kind) head opened nest loop (p .state) (p .empty) (t .start) (t .end) (tokensAt s d)) x y k refl e q
 
 -- what an action tells of the kind: a scalar starts one, a dot is one
 abbrev Tells : Action → Kind → Type 0
@@ -82,6 +86,13 @@ tells State.NeedsComma k = column k .3
 
 pub action-tells : (st : State) (k : Kind) (x y : Action) → x ≡ actionOf st k → x ≡ y → Tells y k
 action-tells st k x y p q = subst (λ (z : Action). Tells z k) (sym p ∙ q) (tells st k)
+
+-- the records of the `{` and of the `}`, by the tokens that are left
+pub opened-left : (s : List ℕ) (base opened : ℕ) → opened ≤ count s → opened ≡ length (allTokens s base) - (count s - opened)
+opened-left s base opened h = omega (arith, h, all-length s base)
+
+pub brace-left : {s : List ℕ} {c d : Cursor} {t : Token} (base : ℕ) → Took s c t d → c .at ≡ length (allTokens s base) - suc (length (tokensAt s d))
+brace-left {s} {d = d} base k = omega (arith, k .left, k .on, all-length s base, left-length s d)
 
 -- an answer that is made by a function
 module _ {s : List ℕ} {c : Cursor} {o : Bufs} {a b : List ℕ} where

@@ -43,6 +43,8 @@ use token::cursor::Cursor;
 use token::cursor::Step;
 use token::cursor::Token;
 ghost use mathlib.Core.Path.{_≡_};
+ghost use Prim.Native.Nat.{_-_, _≤_};
+ghost use Rattle.token.specs.Records.{count};
 ghost use Rattle.token.specs.Tokens.{Good, tokensAt};
 ghost use Rattle.rules.specs.Out.{span};
 ghost use Rattle.rules.specs.InlineTable.{inlineTableTurn};
@@ -50,10 +52,12 @@ ghost use Rattle.output.specs.Pour.{bufs};
 ghost use Rattle.array_parts.specs.Turning.{Turned};
 ghost use Rattle.inline_parts.specs.Parts.{actionTable};
 
-// One turn in the inline table that `head` opened. The table of actions is lent, since the turns of a loop share one.
+// One turn in the inline table that `head` opened, of which `opened` is the first record behind it. The table of actions is lent, since the turns of a
+// loop share one.
 pub fn inline_table_turn(
     s: &[u8],
     head: Token,
+    opened: usize,
     c: Cursor,
     m: Counts,
     p: Progress,
@@ -61,8 +65,8 @@ pub fn inline_table_turn(
     events: &mut [u32],
     errors: &mut [u32],
 ) -> TableTurn
-    requires { ⌜ Good (now s) c × (now actions ≡ actionTable) ⌝ }
-    ensures { λ r. ⌜ Turned Progress (now (s .entry)) (λ nest loop. inlineTableTurn (span (head .start) (head .end)) nest loop p (tokensAt (now (s .entry)) c)) c (bufs (now (events .entry)) (now (errors .entry)) m) (now (events .exit)) (now (errors .exit)) (r .cur) (r .n) (r .progress) (r .next) ⌝ }
+    requires { ⌜ Good (now s) c × (now actions ≡ actionTable) × (opened ≤ count (now s)) ⌝ }
+    ensures { λ r. ⌜ Turned Progress (now (s .entry)) (λ nest loop. inlineTableTurn (span (head .start) (head .end)) (count (now (s .entry)) - opened) nest loop p (tokensAt (now (s .entry)) c)) c (bufs (now (events .entry)) (now (errors .entry)) m) (now (events .exit)) (now (errors .exit)) (r .cur) (r .n) (r .progress) (r .next) ⌝ }
 {
     let step = c.next(s);
     let Step::Got(t, past) = step else {
@@ -157,7 +161,8 @@ pub fn inline_table_turn(
             read(w, State::NeedsComma)
         }
         Action::Close => {
-            let i = trailing_comma(s, past, m, p, head, t, errors);
+            let at = c.at;
+            let i = trailing_comma(at, opened, m, p, head, t, errors);
             let n = emit(events, i, Event::InlineTableClose, t.start, t.end);
             over(Walk { cur: past, n }, p)
         }

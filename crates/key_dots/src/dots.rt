@@ -140,7 +140,7 @@ pub fn nothing_left(
     requires { ⌜ tokensAt (now s) c ≡ [] ⌝ }
     ensures { λ r. ⌜ ((base : ℕ) (events : List ℕ) → c .base ≡ base → bufs events (now (errors .exit)) r ≡ put (allTokens (now (s .entry)) base) (nothingLeft message expected) (bufs events (now (errors .entry)) m)) ⌝ }
 {
-    let last = c.nearest_before(s, Sought::Significant, Span { start: 0, end: 0 });
+    let last = c.nearest_before(s, Sought::Significant, Span { start: 0, end: 0 }, 0);
     report(
         errors,
         m,

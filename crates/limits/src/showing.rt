@@ -3,6 +3,8 @@ use entries::entries::parse_document;
 use rules::answer::Answer;
 use rules::answer::ERROR_WORDS;
 use rules::answer::EVENT_WORDS;
+use rules::options::Mode;
+use rules::options::Options;
 ghost use Prim.Native.Nat.{_≤_};
 ghost use lib.ListN.{length};
 
@@ -69,7 +71,8 @@ fn parse_within(
 ) -> Answer
     requires { ⌜ room ≤ length (now events) ⌝ }
 {
-    parse_document(list, base, &mut events[0..room], errors)
+    let options = Options { mode: Mode::Crate };
+    parse_document(list, base, options, &mut events[0..room], errors)
 }
 
 fn least(a: usize, b: usize) -> usize {

@@ -1,2 +1,1 @@
-pub mod PointLaws
-pub mod PairLaws
+pub mod NumberingLaws

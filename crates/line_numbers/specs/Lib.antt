@@ -1,3 +1,4 @@
 pub mod Points
 pub mod Numbering
-pub mod Pairs
+pub mod Placing
+pub mod PointLaws

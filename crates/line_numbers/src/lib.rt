@@ -1,3 +1,3 @@
-// Line numbers: the last word of each error, filled in when the walk is over.
+// What is found of the errors when the walk is over: the line of each, and the comma that the report of a trailing comma is about.
 pub mod numbering;
 pub mod points;

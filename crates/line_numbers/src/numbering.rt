@@ -1,104 +1,114 @@
-// The last word of each error: the line of its unexpected start. One pass over the errors when the walk is over, so that no walk counts lines.
+// What the walk left open of each error: the line of its unexpected start, and of a trailing comma where the comma is. One pass over the errors when
+// the walk is over, so that no walk counts lines or looks for commas.
 use crate::points::LinePoint;
 use crate::points::first_line;
 use crate::points::line_from;
-use output::message::TRAILING_COMMA;
+use crate::points::point_from;
 use rules::answer::ERROR_WORDS;
+use rules::options::Mode;
 ghost use mathlib.Core.Path.{_≡_};
-ghost use mathlib.Core.List.{List};
-ghost use Prim.Native.Nat.{ℕ, _*_, _≤_};
+ghost use Prim.Native.Nat.{_*_, _≤_};
 ghost use lib.ListN.{length};
 ghost use Rattle.token.specs.Limits.{maxRecords, maxEnd};
+ghost use Rattle.token.specs.Laid.{Laid};
 ghost use Rattle.token.specs.Records.{count, startAt};
 ghost use Rattle.token.specs.Tokens.{allTokens};
 ghost use Rattle.rules.specs.Answer.{errorSize};
+ghost use Rattle.rules.specs.Words.{firstSought};
 ghost use Rattle.line_numbers.specs.Numbering.{numbered, numberedFirst};
 ghost use Rattle.line_numbers.specs.Points.{Counted};
-ghost use Rattle.line_numbers.specs.Pairs.{Pointed, Moved};
+ghost use Rattle.line_numbers.specs.Placing.{Places};
 
-// Two points, and a line. Along the errors the places of TRAILING_COMMA rise, and those of all the others do, but for one fall where the list ends:
-// so with a point for each the whole pass is linear. Where they rise together, the list is passed once.
-pub struct Points {
-    pub commas: LinePoint,
-    pub others: LinePoint,
+// The unexpected span of an error and its line; and the point that was found with them, from which the next error's are found. Along the errors the
+// places rise, but for one fall where the list ends: so the whole pass is linear.
+pub struct Placed {
+    pub start: u32,
+    pub end: u32,
     pub line: u32,
+    pub point: LinePoint,
 }
 
-// Of two points the one that is nearer before the place; the first where it lies behind it.
-fn nearer(p: LinePoint, q: LinePoint, at: u32) -> LinePoint
-    ensures { λ r. ⌜ ((s : List ℕ) (base : ℕ) → Counted s base p → Counted s base q → Counted s base r) ⌝ }
+// The first record at which a comma counts: any, or the one behind the `{`.
+fn first_sought(mode: Mode, behind: usize) -> usize
+    ensures { λ r. ⌜ r ≡ firstSought mode behind ⌝ }
 {
-    let own = p.cur;
-    let other = q.cur;
-    if other.place <= at {
-        if own.place < other.place {
-            return q;
-        }
-        return p;
+    match mode {
+        Mode::Crate => 0,
+        Mode::Brace => behind,
     }
-    p
 }
 
-// The line of a place, from the point for its message, or from the other where that is nearer.
-fn moved(s: &[u8], points: Points, message: u32, at: u32) -> Points
-    requires { ⌜ Pointed (now s) (points .commas .cur .base) points ⌝ }
+// From the last three words of an error as the walk leaves them: its span and 0; or where a `}` starts, its record, and one more than the record
+// behind its `{`: then the last comma between these is to blame, or if there is none the place before the `}`.
+fn place_of(s: &[u8], mode: Mode, p: LinePoint, start: u32, end: u32, mark: u32) -> Placed
+    requires { ⌜ Counted (now s) (p .cur .base) p ⌝ }
     requires { ⌜ count (now s) ≤ maxRecords ⌝ }
-    ensures { λ r. ⌜ Moved (now (s .entry)) (points .commas .cur .base) at r ⌝ }
+    ensures { λ r. ⌜ Places (now (s .entry)) (p .cur .base) mode start end mark r ⌝ }
 {
-    let commas = points.commas;
-    let others = points.others;
-    if message == TRAILING_COMMA {
-        let near = nearer(commas, others, at);
-        let p = line_from(s, near, at);
-        return Points {
-            commas: p,
-            others,
-            line: p.line,
+    if mark == 0 {
+        let q = line_from(s, p, start);
+        return Placed {
+            start,
+            end,
+            line: q.line,
+            point: q,
         };
     }
-    let near = nearer(others, commas, at);
-    let p = line_from(s, near, at);
-    Points {
-        commas,
-        others: p,
-        line: p.line,
+    let first = first_sought(mode, (mark - 1) as usize);
+    let q = point_from(s, p, end as usize);
+    let comma = q.comma;
+    if first < comma.behind {
+        return Placed {
+            start: comma.start,
+            end: comma.end,
+            line: comma.line,
+            point: q,
+        };
+    }
+    let r = line_from(s, q, start);
+    Placed {
+        start,
+        end: start,
+        line: r.line,
+        point: r,
     }
 }
 
 // The first n errors.
-fn number_first(s: &[u8], base: u32, n: usize, errors: &mut [u32])
+fn number_first(s: &[u8], base: u32, mode: Mode, n: usize, errors: &mut [u32])
     requires { ⌜ startAt (now s) base (count (now s)) ≤ maxEnd ⌝ }
+    requires { ⌜ Laid base (allTokens (now s) base) ⌝ }
     requires { ⌜ count (now s) ≤ maxRecords ⌝ }
     requires { ⌜ n * errorSize ≤ length (now errors) ⌝ }
-    ensures { λ _. ⌜ now (errors .exit) ≡ numberedFirst (allTokens (now (s .entry)) base) n (now (errors .entry)) ⌝ }
+    ensures { λ _. ⌜ now (errors .exit) ≡ numberedFirst mode (allTokens (now (s .entry)) base) n (now (errors .entry)) ⌝ }
 {
-    let start = first_line(base);
-    let mut points = Points {
-        commas: start,
-        others: start,
-        line: 1,
-    };
+    let mut point = first_line(base);
     let mut i = 0;
     while i < n {
         let b = i * ERROR_WORDS;
-        let message = errors[b];
-        let at = errors[b + 4];
-        points = moved(s, points, message, at);
-        errors[b + 6] = points.line;
+        let start = errors[b + 4];
+        let end = errors[b + 5];
+        let mark = errors[b + 6];
+        let u = place_of(s, mode, point, start, end, mark);
+        errors[b + 4] = u.start;
+        errors[b + 5] = u.end;
+        errors[b + 6] = u.line;
+        point = u.point;
         i += 1;
     }
 }
 
 // The n errors of a walk: as many as are in the buffer.
-pub fn number_errors(s: &[u8], base: u32, n: usize, errors: &mut [u32])
+pub fn number_errors(s: &[u8], base: u32, mode: Mode, n: usize, errors: &mut [u32])
     requires { ⌜ startAt (now s) base (count (now s)) ≤ maxEnd ⌝ }
+    requires { ⌜ Laid base (allTokens (now s) base) ⌝ }
     requires { ⌜ count (now s) ≤ maxRecords ⌝ }
-    ensures { λ _. ⌜ now (errors .exit) ≡ numbered (allTokens (now (s .entry)) base) n (now (errors .entry)) ⌝ }
+    ensures { λ _. ⌜ now (errors .exit) ≡ numbered mode (allTokens (now (s .entry)) base) n (now (errors .entry)) ⌝ }
 {
     let room = errors.len() / ERROR_WORDS;
     if room < n {
-        number_first(s, base, room, errors);
+        number_first(s, base, mode, room, errors);
     } else {
-        number_first(s, base, n, errors);
+        number_first(s, base, mode, n, errors);
     }
 }

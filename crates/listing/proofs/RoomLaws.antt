@@ -15,7 +15,9 @@ use Rattle.token.specs.Tokens.{Tok, allTokens}
 use Rattle.token.specs.Check.{checked}
 use Rattle.rules.specs.declared.answer.Answer.{Answer}
 use Rattle.rules.specs.declared.event.Event.{Event}
-use Rattle.rules.specs.Out.{Item, event, eventAfter, report, stop}
+use Rattle.rules.specs.Out.{Item, event, eventAfter, report, trailingComma, stop}
+use Rattle.rules.specs.declared.options.Mode.{Mode}
+use Rattle.rules.specs.declared.options.Options.{Options}
 use Rattle.rules.specs.Words.{eventNumber, eventsOf, errorsOf, Halt, ended, refusedLevel, haltOf}
 use Rattle.rules.specs.Entries.{Entry, documentEntry, parse}
 use Rattle.rules.specs.Answer.{eventSize, errorSize, Outcome, filled, refusalBy, walked, outcomeBy, outcome}
@@ -54,6 +56,7 @@ words-named all (event g a b ∷ is) (suc i) h = words-named all is i (omega ari
 words-named all (eventAfter g l ∷ is) zero h = event-named g
 words-named all (eventAfter g l ∷ is) (suc i) h = words-named all is i (omega arith)
 words-named all (report m x c u ∷ is) i h = words-named all is i h
+words-named all (trailingComma head opened left start ∷ is) i h = words-named all is i h
 words-named all (stop n ∷ is) i h = let f : ⊥ = omega arith in absurd f
 
 -- and in a buffer in which all events fit
@@ -73,30 +76,30 @@ no-shortage ended false true q = let h : ⊥ = omega arith in absurd h
 no-shortage ended false false q = (refl, refl)
 no-shortage (refusedLevel n) x y q = let h : ⊥ = omega arith in absurd h
 
-walked-fits : (all : List Tok) (is : List Item) (events errors : List ℕ) → Fits (length events / eventSize) (length errors / errorSize) (walked all is events errors)
+walked-fits : (mode : Mode) (all : List Tok) (is : List Item) (events errors : List ℕ) → Fits (length events / eventSize) (length errors / errorSize) (walked mode all is events errors)
 unfolding walked
-walked-fits all is events errors q =
-    let f = no-shortage (haltOf is) (ltb (length events / eventSize) (length (eventsOf all is))) (ltb (length errors / errorSize) (length (errorsOf all is))) q in
+walked-fits mode all is events errors q =
+    let f = no-shortage (haltOf is) (ltb (length events / eventSize) (length (eventsOf all is))) (ltb (length errors / errorSize) (length (errorsOf mode all is))) q in
     (ltb-false _ _ (f .0), ltb-false _ _ (f .1), filled-named all is events (ltb-false _ _ (f .0)))
 
-by-check : (k : Checked) (entry : Entry) (s : List ℕ) (base : ℕ) (events errors : List ℕ) → Fits (length events / eventSize) (length errors / errorSize) (outcomeBy k entry s base events errors)
-by-check (Checked.Refused r place) entry s base events errors q = (omega arith, omega arith, λ i l. let f : ⊥ = omega (arith, l) in absurd f)
-by-check Checked.Passed entry s base events errors q = walked-fits (allTokens s base) (parse entry (allTokens s base) .items) events errors q
+by-check : (k : Checked) (options : Options) (entry : Entry) (s : List ℕ) (base : ℕ) (events errors : List ℕ) → Fits (length events / eventSize) (length errors / errorSize) (outcomeBy k options entry s base events errors)
+by-check (Checked.Refused r place) options entry s base events errors q = (omega arith, omega arith, λ i l. let f : ⊥ = omega (arith, l) in absurd f)
+by-check Checked.Passed options entry s base events errors q = walked-fits (options .mode) (allTokens s base) (parse entry (allTokens s base) .items) events errors q
 
-outcome-fits : (entry : Entry) (s : List ℕ) (base : ℕ) (events errors : List ℕ) → Fits (length events / eventSize) (length errors / errorSize) (outcome entry s base events errors)
+outcome-fits : (options : Options) (entry : Entry) (s : List ℕ) (base : ℕ) (events errors : List ℕ) → Fits (length events / eventSize) (length errors / errorSize) (outcome options entry s base events errors)
 unfolding outcome
-outcome-fits entry s base events errors = by-check (checked s base) entry s base events errors
+outcome-fits options entry s base events errors = by-check (checked s base) options entry s base events errors
 
 -- so each counted entry lies within the buffer that the entry left, and each event there is named
-pub within : (entry : Entry) (s : List ℕ) (base : ℕ) (events errors a b : List ℕ) (r : Answer) → Answers entry s base events errors a b r
+pub within : (options : Options) (entry : Entry) (s : List ℕ) (base : ℕ) (events errors a b : List ℕ) (r : Answer) → Answers options entry s base events errors a b r
     → length a ≡ length events → length b ≡ length errors → r .refusal ≡ 0 → (eventSize * r .events ≤ length a) × (errorSize * r .errors ≤ length b) × AllNamed a (r .events)
-within entry s base events errors a b r e l m q =
-    let f = subst (Fits (length events / eventSize) (length errors / errorSize)) (sym e) (outcome-fits entry s base events errors) q in
+within options entry s base events errors a b r e l m q =
+    let f = subst (Fits (length events / eventSize) (length errors / errorSize)) (sym e) (outcome-fits options entry s base events errors) q in
     (omega (arith, f .0, l), omega (arith, f .1, m), f .2)
 
 -- 512 records have at most 1,533 events, so with room for 1,600 refusal 7 does not come
-pub never-seven : (s : List ℕ) (base : ℕ) (events errors a b : List ℕ) (r : Answer) → Answers documentEntry s base events errors a b r → length s ≤ 3072 → length events ≡ 6400 → r .refusal ≡ 7 → ⊥
-never-seven s base events errors a b r e short room =
+pub never-seven : (options : Options) (s : List ℕ) (base : ℕ) (events errors a b : List ℕ) (r : Answer) → Answers options documentEntry s base events errors a b r → length s ≤ 3072 → length events ≡ 6400 → r .refusal ≡ 7 → ⊥
+never-seven options s base events errors a b r e short room =
     let few : count s ≤ 512 = omega (arith, short) in
     let most : mostEvents documentEntry 512 ≤ length events / eventSize = omega (arith, room) in
-    subst (λ (o : Outcome). o .answer .refusal ≡ 7 → ⊥) (sym e) (room-events documentEntry s base events errors (le-trans (more-events (count s) 512 few) most))
+    subst (λ (o : Outcome). o .answer .refusal ≡ 7 → ⊥) (sym e) (room-events options documentEntry s base events errors (le-trans (more-events (count s) 512 few) most))

@@ -11,6 +11,8 @@ use crate::printing::print_refusal;
 use entries::entries::parse_document;
 use rules::answer::ERROR_WORDS;
 use rules::answer::EVENT_WORDS;
+use rules::options::Mode;
+use rules::options::Options;
 ghost use Prim.Native.Nat.{_≤_};
 ghost use lib.ListN.{length};
 
@@ -28,7 +30,8 @@ fn list(s: &[u8])
 {
     let mut events = [0u32; EVENT_ROOM];
     let mut errors = [0u32; ERROR_ROOM];
-    let answer = parse_document(s, 0, &mut events, &mut errors);
+    let options = Options { mode: Mode::Crate };
+    let answer = parse_document(s, 0, options, &mut events, &mut errors);
     let refusal = answer.refusal;
     if refusal != 0 {
         print_refusal(refusal, answer.place);

@@ -4,7 +4,9 @@ use mathlib.Core.Bool.{true, false, false≢true}
 use mathlib.Core.List.{List, []}
 use Prim.Native.Nat.{ℕ, zero, suc, _+_, _-_, _≤_}
 use native.Mathlib.Omega.{arith}
+use Rattle.token.specs.Records.{count}
 use Rattle.token.specs.Tokens.{Tok, allTokens, tokensAt, Good}
+use Rattle.token.specs.CursorLaws.{left-length}
 use Rattle.token.specs.declared.cursor.Token.{Token}
 use Rattle.token.specs.declared.cursor.Cursor.{Cursor}
 use Rattle.rules.specs.declared.skipping.Bracket.{Bracket}
@@ -96,10 +98,13 @@ unfolding onOpen
 open-array zero a b ts h = absurd (h refl)
 open-array (suc levels) a b ts h = let e : suc levels - 1 ≡ levels = omega arith in rw e
 
-pub open-table : (levels a b : ℕ) (ts : List Tok) → (levels ≡ 0 → ⊥) → (receiver.inlineTableOpen a b ▹ looping (inlineTableTurn (span a b) (onOpen (levels - 1))) (progress State.NeedsKey true) ts) ≡ onOpen levels Bracket.Curly a b ts
+pub open-table : (s : List ℕ) (c : Cursor) (levels a b : ℕ) → (levels ≡ 0 → ⊥)
+    → (receiver.inlineTableOpen a b ▹ looping (inlineTableTurn (span a b) (count s - c .at) (onOpen (levels - 1))) (progress State.NeedsKey true) (tokensAt s c)) ≡ onOpen levels Bracket.Curly a b (tokensAt s c)
 unfolding onOpen
-open-table zero a b ts h = absurd (h refl)
-open-table (suc levels) a b ts h = let e : suc levels - 1 ≡ levels = omega arith in rw e
+open-table s c zero a b h = absurd (h refl)
+open-table s c (suc levels) a b h =
+    let e : suc levels - 1 ≡ levels = omega arith in
+    rw e (ap (λ (opened : ℕ). receiver.inlineTableOpen a b ▹ looping (inlineTableTurn (span a b) opened (onOpen levels)) (progress State.NeedsKey true) (tokensAt s c)) (sym (left-length s c)))
 
 pub no-level : {s : List ℕ} (levels : ℕ) (bracket : Bracket) (x y : ℕ) (c : Cursor) (a b : List ℕ) (n : Counts) → levels ≡ 0 → Good s c → Nested s (onOpen levels bracket x y (tokensAt s c)) c (bufs a b n) a b (record { cur = c; n = n; stopped = true })
 unfolding onOpen put bufs refused

@@ -12,6 +12,7 @@ use rules::array::ArrayState;
 use rules::event::Event;
 use rules::inline_table::Progress;
 use rules::inline_table::State;
+use rules::options::Settings;
 use token::cursor::Cursor;
 use token::cursor::Token;
 use token::kind::Kind;
@@ -51,13 +52,15 @@ pub fn on_array_open(
     head: Token,
     c: Cursor,
     m: Counts,
-    levels: u32,
+    settings: Settings,
     events: &mut [u32],
     errors: &mut [u32],
 ) -> NestWalk
     requires { ⌜ Good (now s) c ⌝ }
-    ensures { λ r. ⌜ Nested (now (s .entry)) (onArrayOpen levels (head .start) (head .end) (tokensAt (now (s .entry)) c)) c (bufs (now (events .entry)) (now (errors .entry)) m) (now (events .exit)) (now (errors .exit)) r ⌝ }
+    ensures { λ r. ⌜ Nested (now (s .entry)) (onArrayOpen (settings .levels) (head .start) (head .end) (tokensAt (now (s .entry)) c)) c (bufs (now (events .entry)) (now (errors .entry)) m) (now (events .exit)) (now (errors .exit)) r ⌝ }
 {
+    let levels = settings.levels;
+    let options = settings.options;
     if levels == 0 {
         return NestWalk {
             cur: c,
@@ -90,7 +93,7 @@ pub fn on_array_open(
                     };
                 }
                 depth -= 1;
-                left += 1;
+                left = levels - 1 - depth as u32;
                 inner = Token {
                     kind: Kind::LeftSquareBracket,
                     start: starts[depth],
@@ -118,7 +121,11 @@ pub fn on_array_open(
                     let list = s;
                     let from = cur;
                     let sofar = n;
-                    let v = on_array_open(list, t, from, sofar, left, events, errors);
+                    let inside = Settings {
+                        levels: left,
+                        options,
+                    };
+                    let v = on_array_open(list, t, from, sofar, inside, events, errors);
                     let stopped = v.stopped;
                     if stopped {
                         return v;
@@ -131,7 +138,11 @@ pub fn on_array_open(
                 let list = s;
                 let from = cur;
                 let sofar = n;
-                let v = on_inline_table_open(list, t, from, sofar, left, events, errors);
+                let inside = Settings {
+                    levels: left,
+                    options,
+                };
+                let v = on_inline_table_open(list, t, from, sofar, inside, events, errors);
                 let stopped = v.stopped;
                 if stopped {
                     return v;
@@ -148,13 +159,15 @@ pub fn on_inline_table_open(
     head: Token,
     c: Cursor,
     m: Counts,
-    levels: u32,
+    settings: Settings,
     events: &mut [u32],
     errors: &mut [u32],
 ) -> NestWalk
     requires { ⌜ Good (now s) c ⌝ }
-    ensures { λ r. ⌜ Nested (now (s .entry)) (onInlineTableOpen levels (head .start) (head .end) (tokensAt (now (s .entry)) c)) c (bufs (now (events .entry)) (now (errors .entry)) m) (now (events .exit)) (now (errors .exit)) r ⌝ }
+    ensures { λ r. ⌜ Nested (now (s .entry)) (onInlineTableOpen (settings .levels) (head .start) (head .end) (tokensAt (now (s .entry)) c)) c (bufs (now (events .entry)) (now (errors .entry)) m) (now (events .exit)) (now (errors .exit)) r ⌝ }
 {
+    let levels = settings.levels;
+    let options = settings.options;
     if levels == 0 {
         return NestWalk {
             cur: c,
@@ -169,8 +182,13 @@ pub fn on_inline_table_open(
         empty: true,
     };
     let actions = action_table();
+    let opened = c.at;
+    let inside = Settings {
+        levels: levels - 1,
+        options,
+    };
     loop {
-        let a = inline_table_turn(s, head, cur, n, p, &actions, events, errors);
+        let a = inline_table_turn(s, head, opened, cur, n, p, &actions, events, errors);
         cur = a.cur;
         n = a.n;
         p = a.progress;
@@ -188,7 +206,7 @@ pub fn on_inline_table_open(
                 let list = s;
                 let from = cur;
                 let sofar = n;
-                let v = on_array_open(list, t, from, sofar, levels - 1, events, errors);
+                let v = on_array_open(list, t, from, sofar, inside, events, errors);
                 let stopped = v.stopped;
                 if stopped {
                     return v;
@@ -200,7 +218,7 @@ pub fn on_inline_table_open(
                 let list = s;
                 let from = cur;
                 let sofar = n;
-                let v = on_inline_table_open(list, t, from, sofar, levels - 1, events, errors);
+                let v = on_inline_table_open(list, t, from, sofar, inside, events, errors);
                 let stopped = v.stopped;
                 if stopped {
                     return v;

@@ -3,31 +3,31 @@
 use mathlib.Core.Path.{_≡_, refl, ap, sym, subst, _∙_}
 use mathlib.Core.List.{List, []}
 use Prim.Native.Nat.{ℕ, _-_}
-use lib.ListN.{length, take}
-use Rattle.token.specs.Tokens.{Tok, allTokens, tokensAt, tokensBefore, Good}
+use lib.ListN.{length}
+use Rattle.token.specs.Tokens.{Tok, allTokens, tokensAt, Good}
 use Rattle.token.specs.Spans.{spanAfter}
-use Rattle.token.specs.Search.{nearest}
-use Rattle.token.specs.SearchLaws.{before-left}
+use Rattle.token.specs.Search.{nearestBetween}
+use Rattle.token.specs.SearchLaws.{at-left}
 use Rattle.token.specs.declared.span.Span.{Span}
 use Rattle.token.specs.declared.cursor.Cursor.{Cursor}
 use Rattle.token.specs.declared.cursor.Sought.{Sought}
 use Rattle.rules.specs.declared.event.Event.{Event}
 use Rattle.rules.specs.Out.{Look, Place, event, eventAfter, report}
 use Rattle.rules.specs.Words.{Halt, ended, refusedLevel, lookedUp, spanOf}
-use Rattle.output.specs.Pour.{Bufs, put, putBy, withEvent, withError}
+use Rattle.output.specs.Pour.{Bufs, put, putBy, known, withEvent, withError}
 
 -- what a search from the cursor found is what a look back finds before the tokens that are left there
-pub looked-up : (s : List ℕ) (c : Cursor) (base : ℕ) (what : Sought) (none p : Span) (left : ℕ) → Good s c → c .base ≡ base → p ≡ nearest what none (tokensBefore s c) → left ≡ length (tokensAt s c)
+pub looked-up : (s : List ℕ) (c : Cursor) (base : ℕ) (what : Sought) (none p : Span) (left : ℕ) → Good s c → c .base ≡ base → p ≡ nearestBetween what none 0 (c .at) (allTokens s (c .base)) → left ≡ length (tokensAt s c)
     → p ≡ lookedUp (allTokens s base) (record { what = what; left = left; start = none .start; end = none .end })
 unfolding lookedUp
 looked-up s c base what none p left g q e h =
-    subst (λ (b : ℕ). p ≡ nearest what none (take (length (allTokens s b) - left) (allTokens s b))) q
-    (e ∙ ap (nearest what none) (before-left s c g) ∙ ap (λ (n : ℕ). nearest what none (take (length (allTokens s (c .base)) - n) (allTokens s (c .base)))) (sym h))
+    subst (λ (b : ℕ). p ≡ nearestBetween what none 0 (length (allTokens s b) - left) (allTokens s b)) q
+    (e ∙ ap (λ (n : ℕ). nearestBetween what none 0 n (allTokens s (c .base))) (at-left s c g ∙ ap (λ (n : ℕ). length (allTokens s (c .base)) - n) (sym h)))
 
 -- a report whose places are otherwise written
 report-by : (h : Halt) (all : List Tok) (m x : ℕ) (c c' u u' : Place) (o : Bufs) → spanOf all c ≡ spanOf all c' → spanOf all u ≡ spanOf all u' → putBy h all (report m x c u) o ≡ putBy h all (report m x c' u') o
 report-by (refusedLevel n) all m x c c' u u' o p q = refl
-report-by ended all m x c c' u u' o p q = ap (λ (z : Span). withError m x z (spanOf all u) o) p ∙ ap (λ (z : Span). withError m x (spanOf all c') z o) q
+report-by ended all m x c c' u u' o p q = ap (λ (z : Span). withError m x z (known (spanOf all u)) o) p ∙ ap (λ (z : Span). withError m x (spanOf all c') (known z) o) q
 
 pub report-as : (all : List Tok) (m x : ℕ) (c c' u u' : Place) (o : Bufs) → spanOf all c ≡ spanOf all c' → spanOf all u ≡ spanOf all u' → put all (report m x c u) o ≡ put all (report m x c' u') o
 unfolding put

@@ -1,28 +1,47 @@
 -- From items to the two lent buffers, one item at a time: how the code emits. Assumes nothing.
 use mathlib.Core.Bool.{cond}
 use mathlib.Core.List.{List, [], _∷_}
-use Prim.Native.Nat.{ℕ, _+_, _*_, _/_}
+use Prim.Native.Nat.{ℕ, _+_, _-_, _*_, _/_}
 use lib.ListN.{length, set}
 use lib.Dec.{ltb}
 use Rattle.token.specs.Tokens.{Tok}
 use Rattle.token.specs.Spans.{spanAfter}
 use Rattle.token.specs.declared.span.Span.{Span}
 use Rattle.rules.specs.declared.event.Event.{Event}
-use Rattle.rules.specs.Out.{Item, event, eventAfter, report, stop}
+use Rattle.rules.specs.Out.{Item, event, eventAfter, report, trailingComma, stop}
+use Rattle.rules.specs.Messages as message
+use Rattle.rules.specs.Expected as expected
 use Rattle.rules.specs.Words.{eventNumber, encodingOf, lookedUp, spanOf, Halt, ended, refusedLevel}
 use Rattle.rules.specs.Answer.{eventSize, errorSize}
 use Rattle.output.specs.declared.emitting.Counts.{Counts}
 
--- entry i of a buffer, if there is room for it; the last word of an error, its line, is left as it is
+-- entry i of a buffer, if there is room for it
 unfoldable pub putEvent : List ℕ → ℕ → ℕ → ℕ → ℕ → ℕ → List ℕ
 putEvent l i a b c d = cond (ltb i (length l / eventSize)) (set (set (set (set l (i * eventSize) a) (i * eventSize + 1) b) (i * eventSize + 2) c) (i * eventSize + 3) d) l
 
-unfoldable pub putError : List ℕ → ℕ → ℕ → ℕ → ℕ → ℕ → ℕ → ℕ → List ℕ
-putError l i a b c d e f = cond (ltb i (length l / errorSize)) (set (set (set (set (set (set l (i * errorSize) a) (i * errorSize + 1) b) (i * errorSize + 2) c) (i * errorSize + 3) d) (i * errorSize + 4) e) (i * errorSize + 5) f) l
+unfoldable pub putError : List ℕ → ℕ → ℕ → ℕ → ℕ → ℕ → ℕ → ℕ → ℕ → List ℕ
+putError l i a b c d e f g = cond (ltb i (length l / errorSize)) (set (set (set (set (set (set (set l (i * errorSize) a) (i * errorSize + 1) b) (i * errorSize + 2) c) (i * errorSize + 3) d) (i * errorSize + 4) e) (i * errorSize + 5) f) (i * errorSize + 6) g) l
 
 -- one more, up to a bound that no list of the rules reaches
 unfoldable pub more : ℕ → ℕ
 more n = cond (ltb n 2147483647) (n + 1) n
+
+-- the number of a record, up to a bound that no list reaches
+unfoldable pub capped : ℕ → ℕ
+capped n = cond (ltb n 2147483647) n 2147483647
+
+-- the last three words of an error as the walk leaves them, which the pass over the errors behind it makes span and line: a span and 0; or, where a comma is still to be looked for, the place that is
+-- named where there is none, the record before which it is looked for, and one more than the record behind the `{`
+pub record Unexpected : Type 0 where
+  pub start : ℕ
+  pub end : ℕ
+  pub mark : ℕ
+
+abbrev pub known : Span → Unexpected
+known p = record { start = p .start; end = p .end; mark = 0 }
+
+abbrev pub sought : ℕ → ℕ → ℕ → Unexpected
+sought behind past start = record { start = start; end = capped past; mark = capped behind + 1 }
 
 -- the two buffers, their counts, and whether the walk goes on
 pub record Bufs : Type 0 where
@@ -40,11 +59,11 @@ withEvent g p o =
       halt = ended;
     }
 
-abbrev pub withError : ℕ → ℕ → Span → Span → Bufs → Bufs
+abbrev pub withError : ℕ → ℕ → Span → Unexpected → Bufs → Bufs
 withError m x c u o =
     record {
       events = o .events;
-      errors = putError (o .errors) (o .n .errors) m x (c .start) (c .end) (u .start) (u .end);
+      errors = putError (o .errors) (o .n .errors) m x (c .start) (c .end) (u .start) (u .end) (u .mark);
       n = record { events = o .n .events; errors = more (o .n .errors) };
       halt = ended;
     }
@@ -53,7 +72,8 @@ abbrev pub putBy : Halt → List Tok → Item → Bufs → Bufs
 putBy (refusedLevel n) all i o = o
 putBy ended all (event g a b) o = withEvent g (record { start = a; end = b }) o
 putBy ended all (eventAfter g l) o = withEvent g (spanAfter (lookedUp all l)) o
-putBy ended all (report m x c u) o = withError m x (spanOf all c) (spanOf all u) o
+putBy ended all (report m x c u) o = withError m x (spanOf all c) (known (spanOf all u)) o
+putBy ended all (trailingComma head opened left start) o = withError message.trailingComma expected.nothing (spanOf all head) (sought (length all - opened) (length all - left) start) o
 putBy ended all (stop n) o = record { events = o .events; errors = o .errors; n = o .n; halt = refusedLevel n }
 
 -- one item, unless the walk was refused; `all` are all tokens of the input

@@ -1,5 +1,7 @@
 // Emitting: the words of an event, or of an error, into the lent buffers. What does not fit is counted and not written.
-// The last word of an error, its line, is left as it is: the crate line_numbers fills it in when the walk is over.
+// The line of an error, and the comma that the report of a trailing comma is about, are found when the walk is over, by the crate line_numbers.
+use crate::expected::NOTHING;
+use crate::message::TRAILING_COMMA;
 use rules::answer::ERROR_WORDS;
 use rules::answer::EVENT_WORDS;
 use rules::event::Encoding;
@@ -10,11 +12,12 @@ use token::cursor::Cursor;
 use token::cursor::Token;
 ghost use mathlib.Core.Path.{_≡_};
 ghost use mathlib.Core.List.{List};
-ghost use Prim.Native.Nat.{ℕ};
+ghost use Prim.Native.Nat.{ℕ, _-_};
+ghost use lib.ListN.{length};
 ghost use Rattle.token.specs.Tokens.{Tok};
 ghost use Rattle.rules.specs.Out.{span};
 ghost use Rattle.rules.specs.Out as item;
-ghost use Rattle.output.specs.Pour.{more, putEvent, putError, put, bufs};
+ghost use Rattle.output.specs.Pour.{more, capped, putEvent, putError, put, bufs};
 
 // How many events and errors there are so far.
 pub struct Counts {
@@ -56,8 +59,9 @@ fn put_error(
     to: u32,
     start: u32,
     end: u32,
+    mark: u32,
 )
-    ensures { λ _. ⌜ now (errors .exit) ≡ putError (now (errors .entry)) i message expected «from» to start end ⌝ }
+    ensures { λ _. ⌜ now (errors .exit) ≡ putError (now (errors .entry)) i message expected «from» to start end mark ⌝ }
 {
     // As `i < errors.len() / ERROR_WORDS`, without a division, which would be made ahead of every loop that has an error to report.
     if i < errors.len() {
@@ -69,6 +73,7 @@ fn put_error(
             errors[b + 3] = to;
             errors[b + 4] = start;
             errors[b + 5] = end;
+            errors[b + 6] = mark;
         }
     }
 }
@@ -104,7 +109,45 @@ pub fn report(
 ) -> Counts
     ensures { λ r. ⌜ ((all : List Tok) (events : List ℕ) → bufs events (now (errors .exit)) r ≡ put all (item.report message expected (span «from» to) (span start end)) (bufs events (now (errors .entry)) n)) ⌝ }
 {
-    put_error(errors, n.errors, message, expected, from, to, start, end);
+    put_error(errors, n.errors, message, expected, from, to, start, end, 0);
+    Counts {
+        events: n.events,
+        errors: one_more(n.errors),
+    }
+}
+
+// The number of a record. A list never has so many that the bound is reached; it spares every contract a bound.
+fn capped(n: usize) -> u32
+    ensures { λ r. ⌜ r ≡ capped n ⌝ }
+{
+    if n < 2147483647 { n as u32 } else { 2147483647 }
+}
+
+// A trailing comma in the inline table that `head` opened, of which `behind` is the first record. The comma is still to be looked for, before the
+// record `past`, a `}` that starts at `start`.
+pub fn report_trailing_comma(
+    errors: &mut [u32],
+    n: Counts,
+    head: Token,
+    behind: usize,
+    past: usize,
+    start: u32,
+) -> Counts
+    ensures { λ r. ⌜ ((all : List Tok) (events : List ℕ) (opened left : ℕ) → behind ≡ length all - opened → past ≡ length all - left → bufs events (now (errors .exit)) r ≡ put all (item.trailingComma (span (head .start) (head .end)) opened left start) (bufs events (now (errors .entry)) n)) ⌝ }
+{
+    let mark = capped(behind) + 1;
+    let end = capped(past);
+    put_error(
+        errors,
+        n.errors,
+        TRAILING_COMMA,
+        NOTHING,
+        head.start,
+        head.end,
+        start,
+        end,
+        mark,
+    );
     Counts {
         events: n.events,
         errors: one_more(n.errors),

@@ -8,6 +8,8 @@ use Rattle.token.specs.declared.checked.Checked.{Checked}
 use Rattle.token.specs.Tokens.{Tok, allTokens}
 use Rattle.token.specs.Check.{checked}
 use Rattle.rules.specs.declared.answer.Answer.{Answer}
+use Rattle.rules.specs.declared.options.Mode.{Mode}
+use Rattle.rules.specs.declared.options.Options.{Options}
 use Rattle.rules.specs.Out.{Item}
 use Rattle.rules.specs.Entries.{Entry, parse}
 use Rattle.rules.specs.Words.{eventsOf, errorsOf, Halt, ended, refusedLevel, haltOf}
@@ -52,24 +54,28 @@ placeBy ended records = 0
 placeBy (refusedLevel n) records = records - n
 
 -- the walk over all tokens emitted the items
-unfoldable pub walked : List Tok → List Item → List ℕ → List ℕ → Outcome
-walked all is events errors =
+unfoldable pub walked : Mode → List Tok → List Item → List ℕ → List ℕ → Outcome
+walked mode all is events errors =
     record {
       answer = record {
-        refusal = refusalBy (haltOf is) (ltb (length events / eventSize) (length (eventsOf all is))) (ltb (length errors / errorSize) (length (errorsOf all is)));
+        refusal = refusalBy (haltOf is) (ltb (length events / eventSize) (length (eventsOf all is))) (ltb (length errors / errorSize) (length (errorsOf mode all is)));
         place = placeBy (haltOf is) (length all);
         events = length (eventsOf all is);
-        errors = length (errorsOf all is);
+        errors = length (errorsOf mode all is);
       };
       events = filled eventSize (eventsOf all is) events;
-      errors = filled errorSize (errorsOf all is) errors;
+      errors = filled errorSize (errorsOf mode all is) errors;
     }
 
 -- refusals 1 to 5 leave the counts 0 and both buffers untouched
-abbrev pub outcomeBy : Checked → Entry → List ℕ → ℕ → List ℕ → List ℕ → Outcome
-outcomeBy (Checked.Refused r place) entry s base events errors = record { answer = record { refusal = r; place = place; events = 0; errors = 0 }; events = events; errors = errors }
-outcomeBy Checked.Passed entry s base events errors = walked (allTokens s base) (parse entry (allTokens s base) .items) events errors
+abbrev pub outcomeBy : Checked → Options → Entry → List ℕ → ℕ → List ℕ → List ℕ → Outcome
+outcomeBy (Checked.Refused r place) options entry s base events errors = record { answer = record { refusal = r; place = place; events = 0; errors = 0 }; events = events; errors = errors }
+outcomeBy Checked.Passed options entry s base events errors = walked (options .mode) (allTokens s base) (parse entry (allTokens s base) .items) events errors
 
 -- what an entry does with the record bytes s, the base and the two buffers
-unfoldable pub outcome : Entry → List ℕ → ℕ → List ℕ → List ℕ → Outcome
-outcome entry s base events errors = outcomeBy (checked s base) entry s base events errors
+unfoldable pub outcome : Options → Entry → List ℕ → ℕ → List ℕ → List ℕ → Outcome
+outcome options entry s base events errors = outcomeBy (checked s base) options entry s base events errors
+
+-- the options that the Rust's own behaviour is
+abbrev pub asCrate : Options
+asCrate = record { mode = Mode.Crate }

@@ -6,7 +6,8 @@ use Prim.Native.Nat.{ℕ, zero, suc, _+_, _*_, _≤_}
 use native.Mathlib.Omega.{arith}
 use lib.ListN.{length}
 use Rattle.token.specs.Tokens.{Tok}
-use Rattle.rules.specs.Out.{Item, event, eventAfter, report, stop, Out, done, _then_}
+use Rattle.rules.specs.declared.options.Mode.{Mode}
+use Rattle.rules.specs.Out.{Item, event, eventAfter, report, trailingComma, stop, Out, done, _then_}
 use Rattle.rules.specs.Words.{eventsOf, errorsOf}
 use Rattle.rules.specs.Turns.{turns, looping}
 
@@ -16,6 +17,7 @@ eventCount [] = 0
 eventCount (event g a b ∷ is) = suc (eventCount is)
 eventCount (eventAfter g l ∷ is) = suc (eventCount is)
 eventCount (report m x c u ∷ is) = eventCount is
+eventCount (trailingComma head opened left start ∷ is) = eventCount is
 eventCount (stop n ∷ is) = eventCount is
 
 abbrev pub errorCount : List Item → ℕ
@@ -23,6 +25,7 @@ errorCount [] = 0
 errorCount (event g a b ∷ is) = errorCount is
 errorCount (eventAfter g l ∷ is) = errorCount is
 errorCount (report m x c u ∷ is) = suc (errorCount is)
+errorCount (trailingComma head opened left start ∷ is) = suc (errorCount is)
 errorCount (stop n ∷ is) = errorCount is
 
 -- a rule's answer o at the tokens ts: each token that it took pays for three events and two reports, and e events and r reports
@@ -37,20 +40,23 @@ events-counted all [] = omega arith
 events-counted all (event g a b ∷ is) = omega (arith, events-counted all is)
 events-counted all (eventAfter g l ∷ is) = omega (arith, events-counted all is)
 events-counted all (report m x c u ∷ is) = events-counted all is
+events-counted all (trailingComma head opened left start ∷ is) = events-counted all is
 events-counted all (stop n ∷ is) = omega arith
 
-pub errors-counted : (all : List Tok) (is : List Item) → length (errorsOf all is) ≤ errorCount is
-errors-counted all [] = omega arith
-errors-counted all (event g a b ∷ is) = errors-counted all is
-errors-counted all (eventAfter g l ∷ is) = errors-counted all is
-errors-counted all (report m x c u ∷ is) = omega (arith, errors-counted all is)
-errors-counted all (stop n ∷ is) = omega arith
+pub errors-counted : (mode : Mode) (all : List Tok) (is : List Item) → length (errorsOf mode all is) ≤ errorCount is
+errors-counted mode all [] = omega arith
+errors-counted mode all (event g a b ∷ is) = errors-counted mode all is
+errors-counted mode all (eventAfter g l ∷ is) = errors-counted mode all is
+errors-counted mode all (report m x c u ∷ is) = omega (arith, errors-counted mode all is)
+errors-counted mode all (trailingComma head opened left start ∷ is) = omega (arith, errors-counted mode all is)
+errors-counted mode all (stop n ∷ is) = omega arith
 
 pub events-append : (is js : List Item) → eventCount (is ++ js) ≡ eventCount is + eventCount js
 events-append [] js = omega arith
 events-append (event g a b ∷ is) js = omega (arith, events-append is js)
 events-append (eventAfter g l ∷ is) js = omega (arith, events-append is js)
 events-append (report m x c u ∷ is) js = events-append is js
+events-append (trailingComma head opened left start ∷ is) js = events-append is js
 events-append (stop n ∷ is) js = events-append is js
 
 pub errors-append : (is js : List Item) → errorCount (is ++ js) ≡ errorCount is + errorCount js
@@ -58,6 +64,7 @@ errors-append [] js = omega arith
 errors-append (event g a b ∷ is) js = errors-append is js
 errors-append (eventAfter g l ∷ is) js = errors-append is js
 errors-append (report m x c u ∷ is) js = omega (arith, errors-append is js)
+errors-append (trailingComma head opened left start ∷ is) js = omega (arith, errors-append is js)
 errors-append (stop n ∷ is) js = errors-append is js
 
 -- nothing costs nothing

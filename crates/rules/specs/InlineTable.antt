@@ -1,12 +1,11 @@
 -- Inline tables: one turn of on_inline_table_open's loop, four states against sixteen kinds of token. Assumes nothing.
-use Prim.Native.Nat.{ℕ, _-_}
+use Prim.Native.Nat.{ℕ, suc, _-_}
 use mathlib.Core.Bool.{Bool, true, false}
 use mathlib.Core.List.{List, [], _∷_}
 use lib.ListN.{length, getD}
 use Rattle.token.specs.declared.kind.Kind.{Kind}
 use Rattle.token.specs.Kinds.{numberOf}
 use Rattle.token.specs.Tokens.{Tok, tok}
-use Rattle.token.specs.declared.cursor.Sought.{Sought}
 use Rattle.rules.specs.declared.event.Encoding.{Encoding}
 use Rattle.rules.specs.declared.skipping.Bracket.{Bracket}
 use Rattle.rules.specs.declared.keys.InKey.{InKey}
@@ -14,7 +13,7 @@ use Rattle.rules.specs.declared.inline_table.State.{State}
 use Rattle.rules.specs.declared.inline_table.Progress.{Progress}
 use Rattle.rules.specs.declared.inline_table.Action.{Action}
 use Rattle.rules.specs.declared.inline_table.Action.the-variants as A
-use Rattle.rules.specs.Out.{Look, Place, span, before, found, afterFound, Item, report, Out, done, _▹_, _▸_, _then_}
+use Rattle.rules.specs.Out.{Place, span, before, afterFound, Item, report, trailingComma, Out, done, _▹_, _▸_, _then_}
 use Rattle.rules.specs.Messages as message
 use Rattle.rules.specs.Expected as expected
 use Rattle.rules.specs.Receiver as receiver
@@ -61,45 +60,42 @@ encodingAt k = encodingBy (inKey k)
 abbrev pub refused : ℕ → State → Place → ℕ → ℕ → List Item
 refused m st head a b = report m (wanted st) head (before a b) ∷ receiver.error a b ∷ []
 
--- the nearest earlier Comma anywhere in the list, else the place before the `}`
-abbrev pub lastComma : ℕ → ℕ → List Tok → Look
-lastComma a b ts = record { what = Sought.Comma; left = length ts; start = a; end = a }
+-- a `}` at a, with `left` tokens left from it on, where something was read and no comma is wanted: the nearest earlier Comma is to
+-- blame, else the place before the `}`
+abbrev pub trailing : Bool → State → Place → ℕ → ℕ → ℕ → List Item
+trailing true st head opened a left = []
+trailing false State.NeedsKey head opened a left = trailingComma head opened left a ∷ []
+trailing false State.NeedsEquals head opened a left = trailingComma head opened left a ∷ []
+trailing false State.NeedsValue head opened a left = trailingComma head opened left a ∷ []
+trailing false State.NeedsComma head opened a left = []
 
--- a `}` where something was read and no comma is wanted
-abbrev pub trailing : Bool → State → Place → ℕ → ℕ → List Tok → List Item
-trailing true st head a b ts = []
-trailing false State.NeedsKey head a b ts = report message.trailingComma expected.nothing head (found (lastComma a b ts)) ∷ []
-trailing false State.NeedsEquals head a b ts = report message.trailingComma expected.nothing head (found (lastComma a b ts)) ∷ []
-trailing false State.NeedsValue head a b ts = report message.trailingComma expected.nothing head (found (lastComma a b ts)) ∷ []
-trailing false State.NeedsComma head a b ts = []
+-- the token at a..b in the inline table that was opened at `head`, with `opened` tokens left behind its `{`
+abbrev pub inlineTableStep : Action → Kind → Place → ℕ → Nest → (Progress → List Tok → Out) → State → Bool → ℕ → ℕ → List Tok → Out
+inlineTableStep A.Comment k head opened nest loop st empty a b ts = report message.commentInInlineTable expected.nothing head (span a b) ▹ (onComment a b ts then loop (progress st empty))
+inlineTableStep A.Whitespace k head opened nest loop st empty a b ts = receiver.whitespace a b ▹ loop (progress st empty) ts
+inlineTableStep A.Newline k head opened nest loop st empty a b ts = report message.newlineInInlineTable expected.nothing head (span a b) ▹ receiver.newline a b ▹ loop (progress st empty) ts
+inlineTableStep A.Eof k head opened nest loop st empty a b ts = report message.unclosedInlineTable expected.closeCurly head (span a b) ▹ receiver.inlineTableClose a a ▹ done ts
+inlineTableStep A.ExtraComma k head opened nest loop st empty a b ts = refused message.extraCommaInInlineTable st head a b ▸ loop (progress st empty) ts
+inlineTableStep A.ValueSep k head opened nest loop st empty a b ts = receiver.valueSep a b ▹ loop (progress State.NeedsKey empty) ts
+inlineTableStep A.EmptyKey k head opened nest loop st empty a b ts = receiver.simpleKey Encoding.None a a ▹ receiver.keyValSep a b ▹ loop (progress State.NeedsValue false) ts
+inlineTableStep A.KeyValSep k head opened nest loop st empty a b ts = receiver.keyValSep a b ▹ loop (progress State.NeedsValue false) ts
+inlineTableStep A.ExtraAssignment k head opened nest loop st empty a b ts = refused message.extraAssignment st head a b ▸ loop (progress st empty) ts
+inlineTableStep A.KeylessTable k head opened nest loop st empty a b ts = refused message.missingKeyInInlineTable st head a b ▸ (ignoreToValueClose Bracket.Curly ts then loop (progress st empty))
+inlineTableStep A.UnassignedTable k head opened nest loop st empty a b ts = report message.missingAssignment (wanted st) head (before a b) ▹ (nest Bracket.Curly a b ts then loop (progress State.NeedsComma false))
+inlineTableStep A.Table k head opened nest loop st empty a b ts = nest Bracket.Curly a b ts then loop (progress State.NeedsComma false)
+inlineTableStep A.Close k head opened nest loop st empty a b ts = trailing empty st head opened a (suc (length ts)) ▸ receiver.inlineTableClose a b ▹ done ts
+inlineTableStep A.KeylessArray k head opened nest loop st empty a b ts = refused message.missingKeyInInlineTable st head a b ▸ (ignoreToValueClose Bracket.Square ts then loop (progress st empty))
+inlineTableStep A.UnassignedArray k head opened nest loop st empty a b ts = report message.missingAssignment (wanted st) head (before a b) ▹ (nest Bracket.Square a b ts then loop (progress State.NeedsComma false))
+inlineTableStep A.Array k head opened nest loop st empty a b ts = nest Bracket.Square a b ts then loop (progress State.NeedsComma false)
+inlineTableStep A.InvalidElement k head opened nest loop st empty a b ts = refused message.invalidInlineTableElement st head a b ▸ loop (progress st empty) ts
+inlineTableStep A.ArrayWithoutOpen k head opened nest loop st empty a b ts = report message.missingArrayOpening expected.openSquare (span a b) (before a b) ▹ receiver.arrayOpen a a ▹ receiver.arrayClose a b ▹ loop (progress State.NeedsComma false) ts
+inlineTableStep A.DotKey k head opened nest loop st empty a b ts = receiver.simpleKey Encoding.None a a ▹ (optDotKeys (tok k a b ∷ ts) then loop (progress State.NeedsEquals false))
+inlineTableStep A.Key k head opened nest loop st empty a b ts = receiver.simpleKey (encodingAt k) a b ▹ (optDotKeys ts then loop (progress State.NeedsEquals false))
+inlineTableStep A.UnassignedScalar k head opened nest loop st empty a b ts = report message.missingAssignment (wanted st) head (before a b) ▹ (onScalar k a b ts then loop (progress State.NeedsComma false))
+inlineTableStep A.Scalar k head opened nest loop st empty a b ts = onScalar k a b ts then loop (progress State.NeedsComma false)
+inlineTableStep A.DotKeyWithoutComma k head opened nest loop st empty a b ts = report message.missingCommaInInlineTable (wanted st) head (before a b) ▹ receiver.simpleKey Encoding.None a a ▹ (optDotKeys (tok k a b ∷ ts) then loop (progress State.NeedsEquals false))
+inlineTableStep A.KeyWithoutComma k head opened nest loop st empty a b ts = report message.missingCommaInInlineTable (wanted st) head (before a b) ▹ receiver.simpleKey (encodingAt k) a b ▹ (optDotKeys ts then loop (progress State.NeedsEquals false))
 
--- the token at a..b in the inline table that was opened at `head`
-abbrev pub inlineTableStep : Action → Kind → Place → Nest → (Progress → List Tok → Out) → State → Bool → ℕ → ℕ → List Tok → Out
-inlineTableStep A.Comment k head nest loop st empty a b ts = report message.commentInInlineTable expected.nothing head (span a b) ▹ (onComment a b ts then loop (progress st empty))
-inlineTableStep A.Whitespace k head nest loop st empty a b ts = receiver.whitespace a b ▹ loop (progress st empty) ts
-inlineTableStep A.Newline k head nest loop st empty a b ts = report message.newlineInInlineTable expected.nothing head (span a b) ▹ receiver.newline a b ▹ loop (progress st empty) ts
-inlineTableStep A.Eof k head nest loop st empty a b ts = report message.unclosedInlineTable expected.closeCurly head (span a b) ▹ receiver.inlineTableClose a a ▹ done ts
-inlineTableStep A.ExtraComma k head nest loop st empty a b ts = refused message.extraCommaInInlineTable st head a b ▸ loop (progress st empty) ts
-inlineTableStep A.ValueSep k head nest loop st empty a b ts = receiver.valueSep a b ▹ loop (progress State.NeedsKey empty) ts
-inlineTableStep A.EmptyKey k head nest loop st empty a b ts = receiver.simpleKey Encoding.None a a ▹ receiver.keyValSep a b ▹ loop (progress State.NeedsValue false) ts
-inlineTableStep A.KeyValSep k head nest loop st empty a b ts = receiver.keyValSep a b ▹ loop (progress State.NeedsValue false) ts
-inlineTableStep A.ExtraAssignment k head nest loop st empty a b ts = refused message.extraAssignment st head a b ▸ loop (progress st empty) ts
-inlineTableStep A.KeylessTable k head nest loop st empty a b ts = refused message.missingKeyInInlineTable st head a b ▸ (ignoreToValueClose Bracket.Curly ts then loop (progress st empty))
-inlineTableStep A.UnassignedTable k head nest loop st empty a b ts = report message.missingAssignment (wanted st) head (before a b) ▹ (nest Bracket.Curly a b ts then loop (progress State.NeedsComma false))
-inlineTableStep A.Table k head nest loop st empty a b ts = nest Bracket.Curly a b ts then loop (progress State.NeedsComma false)
-inlineTableStep A.Close k head nest loop st empty a b ts = trailing empty st head a b ts ▸ receiver.inlineTableClose a b ▹ done ts
-inlineTableStep A.KeylessArray k head nest loop st empty a b ts = refused message.missingKeyInInlineTable st head a b ▸ (ignoreToValueClose Bracket.Square ts then loop (progress st empty))
-inlineTableStep A.UnassignedArray k head nest loop st empty a b ts = report message.missingAssignment (wanted st) head (before a b) ▹ (nest Bracket.Square a b ts then loop (progress State.NeedsComma false))
-inlineTableStep A.Array k head nest loop st empty a b ts = nest Bracket.Square a b ts then loop (progress State.NeedsComma false)
-inlineTableStep A.InvalidElement k head nest loop st empty a b ts = refused message.invalidInlineTableElement st head a b ▸ loop (progress st empty) ts
-inlineTableStep A.ArrayWithoutOpen k head nest loop st empty a b ts = report message.missingArrayOpening expected.openSquare (span a b) (before a b) ▹ receiver.arrayOpen a a ▹ receiver.arrayClose a b ▹ loop (progress State.NeedsComma false) ts
-inlineTableStep A.DotKey k head nest loop st empty a b ts = receiver.simpleKey Encoding.None a a ▹ (optDotKeys (tok k a b ∷ ts) then loop (progress State.NeedsEquals false))
-inlineTableStep A.Key k head nest loop st empty a b ts = receiver.simpleKey (encodingAt k) a b ▹ (optDotKeys ts then loop (progress State.NeedsEquals false))
-inlineTableStep A.UnassignedScalar k head nest loop st empty a b ts = report message.missingAssignment (wanted st) head (before a b) ▹ (onScalar k a b ts then loop (progress State.NeedsComma false))
-inlineTableStep A.Scalar k head nest loop st empty a b ts = onScalar k a b ts then loop (progress State.NeedsComma false)
-inlineTableStep A.DotKeyWithoutComma k head nest loop st empty a b ts = report message.missingCommaInInlineTable (wanted st) head (before a b) ▹ receiver.simpleKey Encoding.None a a ▹ (optDotKeys (tok k a b ∷ ts) then loop (progress State.NeedsEquals false))
-inlineTableStep A.KeyWithoutComma k head nest loop st empty a b ts = report message.missingCommaInInlineTable (wanted st) head (before a b) ▹ receiver.simpleKey (encodingAt k) a b ▹ (optDotKeys ts then loop (progress State.NeedsEquals false))
-
-abbrev pub inlineTableTurn : Place → Nest → (Progress → List Tok → Out) → Progress → List Tok → Out
-inlineTableTurn head nest loop p [] = report message.unclosedInlineTable expected.closeCurly head (afterFound lastSignificant) ▹ receiver.arrayCloseAfter lastSignificant ▹ done []
-inlineTableTurn head nest loop p (tok k a b ∷ ts) = inlineTableStep (actionOf (p .state) k) k head nest loop (p .state) (p .empty) a b ts
+abbrev pub inlineTableTurn : Place → ℕ → Nest → (Progress → List Tok → Out) → Progress → List Tok → Out
+inlineTableTurn head opened nest loop p [] = report message.unclosedInlineTable expected.closeCurly head (afterFound lastSignificant) ▹ receiver.arrayCloseAfter lastSignificant ▹ done []
+inlineTableTurn head opened nest loop p (tok k a b ∷ ts) = inlineTableStep (actionOf (p .state) k) k head opened nest loop (p .state) (p .empty) a b ts

@@ -3,6 +3,7 @@ use Prim.Native.Nat.{ℕ}
 use mathlib.Core.List.{List, [], _∷_}
 use lib.ListN.{getD}
 use Rattle.token.specs.declared.kind.Kind.the-variants.{Comment, Newline, LiteralString, MlBasicString}
+use Rattle.rules.specs.declared.options.Mode.{Mode}
 use Rattle.rules.specs.Entries.{Entry, documentEntry, keyEntry, valueEntry, parse}
 use Rattle.rules.specs.Words.{errorsOf}
 use Rattle.rules.specs.TextWords.{Piece, piece, equals, comma, openSquare, closeSquare, openCurly, closeCurly, space, lineEnd, atom, eof, laid}
@@ -60,8 +61,8 @@ abbrev pub linesOf : List (List ℕ) → List (List ℕ)
 linesOf [] = []
 linesOf (e ∷ es) = lined (getD e 0 0) (getD e 4 0) (getD e 6 0) ∷ linesOf es
 
-abbrev pub linesRuled : List LineText → List (List (List ℕ))
-linesRuled [] = []
-linesRuled (t ∷ ts) =
+abbrev pub linesRuled : Mode → List LineText → List (List (List ℕ))
+linesRuled mode [] = []
+linesRuled mode (t ∷ ts) =
     let all = laid (t .base) (t .pieces) in
-    linesOf (errorsOf all (parse (t .entry) all .items)) ∷ linesRuled ts
+    linesOf (errorsOf mode all (parse (t .entry) all .items)) ∷ linesRuled mode ts

@@ -17,7 +17,7 @@ use Rattle.rules.specs.InlineTable.{progress, inlineTableTurn}
 unfoldable pub onOpen : ℕ → Nest
 onOpen zero bracket a b ts = stop (suc (length ts)) ▹ done ts
 onOpen (suc levels) Bracket.Square a b ts = receiver.arrayOpen a b ▹ looping (arrayTurn (span a b) (onOpen levels)) ArrayState.NeedsValue ts
-onOpen (suc levels) Bracket.Curly a b ts = receiver.inlineTableOpen a b ▹ looping (inlineTableTurn (span a b) (onOpen levels)) (progress State.NeedsKey true) ts
+onOpen (suc levels) Bracket.Curly a b ts = receiver.inlineTableOpen a b ▹ looping (inlineTableTurn (span a b) (length ts) (onOpen levels)) (progress State.NeedsKey true) ts
 
 abbrev pub onArrayOpen : ℕ → ℕ → ℕ → List Tok → Out
 onArrayOpen levels a b ts = onOpen levels Bracket.Square a b ts

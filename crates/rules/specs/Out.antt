@@ -28,11 +28,14 @@ abbrev pub after : ℕ → ℕ → Place
 after a b = span b b
 
 -- an event over a span; an event of empty span after the token that a look back finds; an error report with message, what was
--- expected, context and unexpected; the refusal of one more level, with so many tokens left: what follows it does not count
+-- expected, context and unexpected; the report of a trailing comma in the inline table that was opened at `head`, with how many tokens
+-- were left behind its `{`, how many are left from its `}` on, and where that starts; the refusal of one more level, with so many tokens
+-- left: what follows it does not count
 pub data Item : Type 0 where
   event : Event → ℕ → ℕ → Item
   eventAfter : Event → Look → Item
   report : ℕ → ℕ → Place → Place → Item
+  trailingComma : (head : Place) (opened left start : ℕ) → Item
   stop : ℕ → Item
 
 pub record Out : Type 0 where

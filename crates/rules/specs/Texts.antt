@@ -3,6 +3,8 @@
 use Prim.Native.Nat.{ℕ, _*_, _-_}
 use mathlib.Core.List.{List, [], _∷_, _++_}
 use lib.ListN.{length}
+use Rattle.rules.specs.declared.options.Mode.{Mode}
+use Rattle.rules.specs.declared.options.Options.{Options}
 use Rattle.rules.specs.Entries.{Entry, documentEntry, keyEntry, parse}
 use Rattle.rules.specs.Words.{eventsOf, errorsOf}
 use Rattle.rules.specs.Answer.{eventSize, errorSize, Outcome, joined, outcome}
@@ -108,12 +110,12 @@ asWritten [] = []
 asWritten (t ∷ ts) = record { events = t .events; errors = t .errors } ∷ asWritten ts
 
 -- as the rules have it
-abbrev pub asRuled : List Text → List Reading
-asRuled [] = []
-asRuled (t ∷ ts) =
+abbrev pub asRuled : Mode → List Text → List Reading
+asRuled mode [] = []
+asRuled mode (t ∷ ts) =
     let all = laid 0 (t .pieces) in
     let given = parse (t .entry) all .items in
-    record { events = eventsOf all given; errors = errorsOf all given } ∷ asRuled ts
+    record { events = eventsOf all given; errors = errorsOf mode all given } ∷ asRuled mode ts
 
 -- the same from record bytes, in buffers of so many words that all hold w: the answer, what is written, what is left as it was
 abbrev pub room : ℕ
@@ -129,6 +131,6 @@ writtenOutcomes w (t ∷ ts) =
     }
     ∷ writtenOutcomes w ts
 
-abbrev pub ruledOutcomes : ℕ → List Text → List Outcome
-ruledOutcomes w [] = []
-ruledOutcomes w (t ∷ ts) = outcome (t .entry) (recordBytes (t .pieces)) 0 (words w room) (words w room) ∷ ruledOutcomes w ts
+abbrev pub ruledOutcomes : Options → ℕ → List Text → List Outcome
+ruledOutcomes options w [] = []
+ruledOutcomes options w (t ∷ ts) = outcome options (t .entry) (recordBytes (t .pieces)) 0 (words w room) (words w room) ∷ ruledOutcomes options w ts

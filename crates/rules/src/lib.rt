@@ -5,6 +5,7 @@ pub mod document;
 pub mod event;
 pub mod inline_table;
 pub mod keys;
+pub mod options;
 pub mod scalar;
 pub mod skipping;
 pub mod theorems;

@@ -15,9 +15,13 @@ use Rattle.token.specs.Check.{checked}
 use Rattle.token.specs.Writing.{recordOf, putAt}
 use Rattle.token.specs.WritingLaws.{writtenFrom, written-record}
 use Rattle.rules.specs.Entries.{documentEntry}
+use Rattle.rules.specs.declared.options.Options.{Options}
+use Rattle.rules.specs.declared.answer.Answer.{Answer}
 use Rattle.rules.specs.Answer.{outcome}
+use Rattle.entries.specs.declared.modes.Chosen.{Chosen}
+use Rattle.entries.specs.Modes.{chosenBy, outcomeOf, AnswersIn}
 use Rattle.structs.specs.declared.Token.{Token}
-use Rattle.structs.specs.Structs.{recordsOf}
+use Rattle.structs.specs.Structs.{recordsOf, tooManyBy, tooMany}
 
 -- what stands for an element beyond the end
 abbrev pub none : Token
@@ -65,12 +69,20 @@ copy-done ys i s le ge =
     ∙ ap (λ (k : ℕ). take (6 * k) s ++ drop (6 * length ys) s) e
     ∙ take-append-drop (6 * length ys) s
 
--- more structs than there may be records: refusal 2, as for their records
-pub too-many : (ys : List Token) (base : ℕ) (events errors : List ℕ) → maxRecords < length ys
-    → record { answer = record { refusal = 2; place = maxRecords; events = 0; errors = 0 }; events = events; errors = errors } ≡ outcome documentEntry (recordsOf ys) base events errors
+-- more structs than there may be records: refusal 2, as for their records, or an unknown mode
+too-many-known : (options : Options) (ys : List Token) (base : ℕ) (events errors : List ℕ) → maxRecords < length ys
+    → record { answer = record { refusal = 2; place = maxRecords; events = 0; errors = 0 }; events = events; errors = errors } ≡ outcome options documentEntry (recordsOf ys) base events errors
 unfolding outcome checked
-too-many ys base events errors h =
+too-many-known options ys base events errors h =
     let l = length-records ys in
     let whole : eqb (length (recordsOf ys) % 6) 0 ≡ true = eq-eqb (length (recordsOf ys) % 6) 0 (omega (arith, l)) in
     let many : ltb maxRecords (length (recordsOf ys) / 6) ≡ true = lt-ltb maxRecords (length (recordsOf ys) / 6) (omega (arith, l)) in
     rw (whole, many)
+
+too-many-by : (x : Chosen) (ys : List Token) (base : ℕ) (events errors : List ℕ) → maxRecords < length ys
+    → record { answer = tooManyBy x; events = events; errors = errors } ≡ outcomeOf x documentEntry (recordsOf ys) base events errors
+too-many-by (Chosen.Known options) ys base events errors h = too-many-known options ys base events errors h
+too-many-by Chosen.Unknown ys base events errors h = refl
+
+pub too-many : (mode : ℕ) (ys : List Token) (base : ℕ) (events errors : List ℕ) (r : Answer) → maxRecords < length ys → r ≡ tooMany mode → AnswersIn mode documentEntry (recordsOf ys) base events errors events errors r
+too-many mode ys base events errors r h e = ap (λ (z : Answer). record { answer = z; events = events; errors = errors }) e ∙ too-many-by (chosenBy mode) ys base events errors h

@@ -3,6 +3,10 @@ use mathlib.Core.Path.{_≡_}
 use mathlib.Core.List.{List, [], _∷_, _++_}
 use Prim.Native.Nat.{ℕ, _*_, _<_, _^_}
 use lib.ListN.{length}
+use Rattle.rules.specs.declared.answer.Answer.{Answer}
+use Rattle.entries.specs.declared.modes.Chosen.{Chosen}
+use Rattle.entries.specs.Modes.{chosenBy, unknownMode}
+use Rattle.token.specs.Limits.{maxRecords}
 use Rattle.token.specs.Records.{lengthAt, kindNumberAt}
 use Rattle.token.specs.Writing.{recordOf}
 use Rattle.structs.specs.declared.Token.{Token}
@@ -18,3 +22,11 @@ pub record KindsAndLengthsKept : Type 0 where
   pub records : (tokens : List Token) → length (recordsOf tokens) ≡ 6 * length tokens
   pub lengths : (before : List Token) (t : Token) (behind : List Token) → t .length < 2 ^ 32 → lengthAt (recordsOf (before ++ (t ∷ behind))) (length before) ≡ t .length
   pub kinds : (before : List Token) (t : Token) (behind : List Token) → t .kind < 2 ^ 16 → kindNumberAt (recordsOf (before ++ (t ∷ behind))) (length before) ≡ t .kind
+
+-- the answer to more structs than there may be records: an unknown mode is refused before it
+abbrev pub tooManyBy : Chosen → Answer
+tooManyBy (Chosen.Known options) = record { refusal = 2; place = maxRecords; events = 0; errors = 0 }
+tooManyBy Chosen.Unknown = unknownMode
+
+abbrev pub tooMany : ℕ → Answer
+tooMany mode = tooManyBy (chosenBy mode)

@@ -2,6 +2,9 @@
 pub mod theorems;
 
 use entries::entries::parse_document;
+use entries::modes::Chosen;
+use entries::modes::choose;
+use entries::modes::unknown_mode;
 use rules::answer::Answer;
 use token::checked::MAX_RECORDS;
 use token::writing::put_record;
@@ -10,9 +13,9 @@ ghost use mathlib.Core.List.{_++_};
 ghost use Prim.Native.Nat.{_+_, _*_, _≤_};
 ghost use lib.ListN.{length, take, drop};
 ghost use Rattle.rules.specs.Entries.{documentEntry};
-ghost use Rattle.entries.specs.Answers.{Answers};
+ghost use Rattle.entries.specs.Modes.{AnswersIn};
 ghost use Rattle.token.specs.Writing.{putAt};
-ghost use Rattle.structs.specs.Structs.{recordsOf};
+ghost use Rattle.structs.specs.Structs.{recordsOf, tooMany};
 
 // A token: its length in bytes, and the number of its kind.
 #[repr(C)]
@@ -47,8 +50,25 @@ fn copy(tokens: &[Token], records: &mut [u8])
     }
 }
 
+// The answer to more structs than there may be records: their number is refused, but an unknown mode before it.
+fn too_many(mode: u32) -> Answer
+    ensures { λ r. ⌜ r ≡ tooMany mode ⌝ }
+{
+    let choice = choose(mode);
+    match choice {
+        Chosen::Known(_) => Answer {
+            refusal: 2,
+            place: MAX_RECORDS,
+            events: 0,
+            errors: 0,
+        },
+        Chosen::Unknown => unknown_mode(),
+    }
+}
+
 // The byte form on the first n records.
 fn parse_records(
+    mode: u32,
     records: &mut [u8],
     n: usize,
     base: u32,
@@ -56,14 +76,19 @@ fn parse_records(
     errors: &mut [u32],
 ) -> Answer
     requires { ⌜ 6 * n ≤ length (now records) ⌝ }
-    ensures { λ r. ⌜ Answers documentEntry (take (6 * n) (now (records .entry))) base (now (events .entry)) (now (errors .entry)) (now (events .exit)) (now (errors .exit)) r ⌝ }
+    ensures { λ r. ⌜ AnswersIn mode documentEntry (take (6 * n) (now (records .entry))) base (now (events .entry)) (now (errors .entry)) (now (events .exit)) (now (errors .exit)) r ⌝ }
 {
     let end = 6 * n;
-    parse_document(&records[..end], base, events, errors)
+    let choice = choose(mode);
+    match choice {
+        Chosen::Known(options) => parse_document(&records[..end], base, options, events, errors),
+        Chosen::Unknown => unknown_mode(),
+    }
 }
 
 // The entry with a lent record buffer, in which the structs have room.
 fn parse_in(
+    mode: u32,
     tokens: &[Token],
     records: &mut [u8],
     base: u32,
@@ -71,24 +96,25 @@ fn parse_in(
     errors: &mut [u32],
 ) -> Answer
     requires { ⌜ 6 * length (now tokens) ≤ length (now records) ⌝ }
-    ensures { λ r. ⌜ Answers documentEntry (recordsOf (now (tokens .entry))) base (now (events .entry)) (now (errors .entry)) (now (events .exit)) (now (errors .exit)) r ⌝ }
+    ensures { λ r. ⌜ AnswersIn mode documentEntry (recordsOf (now (tokens .entry))) base (now (events .entry)) (now (errors .entry)) (now (events .exit)) (now (errors .exit)) r ⌝ }
 {
     copy(tokens, records);
-    parse_records(records, tokens.len(), base, events, errors)
+    parse_records(mode, records, tokens.len(), base, events, errors)
 }
 
-// The entry: any list may be given. One that is too long is refused before anything is copied.
-pub fn parse_tokens(tokens: &[Token], base: u32, events: &mut [u32], errors: &mut [u32]) -> Answer
-    ensures { λ r. ⌜ Answers documentEntry (recordsOf (now (tokens .entry))) base (now (events .entry)) (now (errors .entry)) (now (events .exit)) (now (errors .exit)) r ⌝ }
+// The entry: any list may be given, and a mode by its number. A list that is too long is refused before anything is copied.
+pub fn parse_tokens(
+    mode: u32,
+    tokens: &[Token],
+    base: u32,
+    events: &mut [u32],
+    errors: &mut [u32],
+) -> Answer
+    ensures { λ r. ⌜ AnswersIn mode documentEntry (recordsOf (now (tokens .entry))) base (now (events .entry)) (now (errors .entry)) (now (events .exit)) (now (errors .exit)) r ⌝ }
 {
     if MAX_RECORDS < tokens.len() {
-        return Answer {
-            refusal: 2,
-            place: MAX_RECORDS,
-            events: 0,
-            errors: 0,
-        };
+        return too_many(mode);
     }
     let mut records = [0; RECORD_BYTES];
-    parse_in(tokens, &mut records, base, events, errors)
+    parse_in(mode, tokens, &mut records, base, events, errors)
 }

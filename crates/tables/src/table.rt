@@ -46,6 +46,7 @@ fn unclosed_table(
                 start: head.start,
                 end: head.end,
             },
+            0,
         );
         if array {
             let n = report(

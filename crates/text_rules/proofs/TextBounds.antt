@@ -13,6 +13,7 @@ use Rattle.token.specs.Limits.{maxEnd}
 use Rattle.token.specs.Records.{count}
 use Rattle.token.specs.WritingLaws.{records-length}
 use Rattle.rules.specs.Entries.{documentEntry}
+use Rattle.rules.specs.declared.options.Options.{Options}
 use Rattle.rules.specs.Answer.{eventSize, errorSize}
 use Rattle.bounds.specs.Most.{mostEvents, mostErrors}
 use Rattle.bounds.specs.Bounds.{three-events, two-errors, more-events, more-errors}
@@ -37,7 +38,7 @@ by-room true u text records m n e = omega (arith, e)
 by-room false true text records m n e = omega (arith, e)
 by-room false false text records m n e = omega (arith, e)
 
-module _ (text records events errors : List ℕ) where
+module _ (options : Options) (text records events errors : List ℕ) where
   lexed-own : (r : ℕ) → 1 ≤ r → r ≤ 8 → lexOutcome text records .answer .refusal ≡ r → ⊥
   unfolding lexOutcome
   lexed-own r h k e = by-tests (ltb maxEnd (length text)) (ltb (validUpTo text) (length text)) (ltb (length records / 6) (length (tokensOf text))) text records (validUpTo text) (length (tokensOf text)) r h k e
@@ -55,46 +56,46 @@ module _ (text records events errors : List ℕ) where
   records-few z = omega (arith, ap length (lexed-records text records z), records-length (tokensOf text), text-few text)
 
   abbrev run : Bool → ℕ × ℕ × ℕ
-  run b = (readingBy b (lexOutcome text records) events errors .answer .events, readingBy b (lexOutcome text records) events errors .answer .errors, readingBy b (lexOutcome text records) events errors .answer .refusal)
+  run b = (readingBy options b (lexOutcome text records) events errors .answer .events, readingBy options b (lexOutcome text records) events errors .answer .errors, readingBy options b (lexOutcome text records) events errors .answer .refusal)
 
   by-reading : (b : Bool) → eqb (lexOutcome text records .answer .refusal) 0 ≡ b → (run b .0 ≤ mostEvents documentEntry (length text + 1)) × (run b .1 ≤ mostErrors documentEntry (length text + 1))
   by-reading true q =
       let few = records-few (eqb-true _ _ q) in
-      let most = counts-most documentEntry (recordsLeft (lexOutcome text records)) (lexOutcome text records .answer .base) events errors in
+      let most = counts-most options documentEntry (recordsLeft (lexOutcome text records)) (lexOutcome text records .answer .base) events errors in
       (le-trans (most .0) (more-events (count (recordsLeft (lexOutcome text records))) (length text + 1) few), le-trans (most .1) (more-errors (count (recordsLeft (lexOutcome text records))) (length text + 1) few))
   by-reading false q = (omega arith, omega arith)
 
-  pub text-counts-most : (textOutcome text records events errors .answer .events ≤ mostEvents documentEntry (length text + 1)) × (textOutcome text records events errors .answer .errors ≤ mostErrors documentEntry (length text + 1))
+  pub text-counts-most : (textOutcome options text records events errors .answer .events ≤ mostEvents documentEntry (length text + 1)) × (textOutcome options text records events errors .answer .errors ≤ mostErrors documentEntry (length text + 1))
   unfolding textOutcome
   text-counts-most = by-reading (eqb (lexOutcome text records .answer .refusal) 0) refl
 
-  pub text-counts-within : (textOutcome text records events errors .answer .events ≤ 3 * length text + 3) × (textOutcome text records events errors .answer .errors ≤ 2 * length text + 3)
+  pub text-counts-within : (textOutcome options text records events errors .answer .events ≤ 3 * length text + 3) × (textOutcome options text records events errors .answer .errors ≤ 2 * length text + 3)
   text-counts-within = (omega (arith, text-counts-most .0, three-events documentEntry (length text + 1)), omega (arith, text-counts-most .1, two-errors documentEntry (length text + 1)))
 
   seven-by : (b : Bool) → eqb (lexOutcome text records .answer .refusal) 0 ≡ b → mostEvents documentEntry (length text + 1) ≤ length events / eventSize → run b .2 ≡ 7 → ⊥
   seven-by true q h e =
-      room-events documentEntry (recordsLeft (lexOutcome text records)) (lexOutcome text records .answer .base) events errors
+      room-events options documentEntry (recordsLeft (lexOutcome text records)) (lexOutcome text records .answer .base) events errors
       (le-trans (more-events (count (recordsLeft (lexOutcome text records))) (length text + 1) (records-few (eqb-true _ _ q))) h) e
   seven-by false q h e = lexed-own 7 (omega arith) (omega arith) e
 
   eight-by : (b : Bool) → eqb (lexOutcome text records .answer .refusal) 0 ≡ b → mostErrors documentEntry (length text + 1) ≤ length errors / errorSize → run b .2 ≡ 8 → ⊥
   eight-by true q h e =
-      room-errors documentEntry (recordsLeft (lexOutcome text records)) (lexOutcome text records .answer .base) events errors
+      room-errors options documentEntry (recordsLeft (lexOutcome text records)) (lexOutcome text records .answer .base) events errors
       (le-trans (more-errors (count (recordsLeft (lexOutcome text records))) (length text + 1) (records-few (eqb-true _ _ q))) h) e
   eight-by false q h e = lexed-own 8 (omega arith) (omega arith) e
 
   eleven-by : (b : Bool) → length text + 1 ≤ length records / 6 → run b .2 ≡ 11 → ⊥
-  eleven-by true h e = omega (arith, e, refusal-most documentEntry (recordsLeft (lexOutcome text records)) (lexOutcome text records .answer .base) events errors)
+  eleven-by true h e = omega (arith, e, refusal-most options documentEntry (recordsLeft (lexOutcome text records)) (lexOutcome text records .answer .base) events errors)
   eleven-by false h e = lexed-roomy h e
 
-  pub text-room-events : mostEvents documentEntry (length text + 1) ≤ length events / eventSize → textOutcome text records events errors .answer .refusal ≡ 7 → ⊥
+  pub text-room-events : mostEvents documentEntry (length text + 1) ≤ length events / eventSize → textOutcome options text records events errors .answer .refusal ≡ 7 → ⊥
   unfolding textOutcome
   text-room-events = seven-by (eqb (lexOutcome text records .answer .refusal) 0) refl
 
-  pub text-room-errors : mostErrors documentEntry (length text + 1) ≤ length errors / errorSize → textOutcome text records events errors .answer .refusal ≡ 8 → ⊥
+  pub text-room-errors : mostErrors documentEntry (length text + 1) ≤ length errors / errorSize → textOutcome options text records events errors .answer .refusal ≡ 8 → ⊥
   unfolding textOutcome
   text-room-errors = eight-by (eqb (lexOutcome text records .answer .refusal) 0) refl
 
-  pub text-room-records : length text + 1 ≤ length records / 6 → textOutcome text records events errors .answer .refusal ≡ 11 → ⊥
+  pub text-room-records : length text + 1 ≤ length records / 6 → textOutcome options text records events errors .answer .refusal ≡ 11 → ⊥
   unfolding textOutcome
   text-room-records = eleven-by (eqb (lexOutcome text records .answer .refusal) 0)

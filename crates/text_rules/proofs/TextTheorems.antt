@@ -10,6 +10,7 @@ use Rattle.rules.specs.Limits.{maxDepth}
 use Rattle.rules.specs.Answer.{Outcome}
 use Rattle.fitting.specs.Quiet.{QuietRun, NoMultiLineKey}
 use Rattle.fitting.specs.Grammar.{FitsWithin, Fits}
+use Rattle.rules.specs.declared.options.Options.{Options}
 use Rattle.fitting.specs.Premises.{NestedWithin, Regular, Ready, documentRun, textEnd, eventsLeft, EndToEnd, Nests, SameButForCuts}
 use Rattle.lex.specs.declared.Lexed.{Lexed}
 use Rattle.scan.specs.Lexer.{tokensOf, baseOf}
@@ -30,11 +31,11 @@ same-end p [] = refl
 same-end p (tok k a b ∷ ts) = same-end b ts
 
 -- what the lexer answered, with the record buffer after it
-module _ (text records events errors : List ℕ) (r : Lexed) (after : List ℕ) (e : record { answer = r; buffer = after } ≡ lexOutcome text records) where
+module _ (options : Options) (text records events errors : List ℕ) (r : Lexed) (after : List ℕ) (e : record { answer = r; buffer = after } ≡ lexOutcome text records) where
   abbrev run : Outcome
-  run = textRun text records events errors
+  run = textRun options text records events errors
 
-  pub refused-unready : (r .refusal ≡ 0 → ⊥) → TextReady text records events errors → ⊥
+  pub refused-unready : (r .refusal ≡ 0 → ⊥) → TextReady options text records events errors → ⊥
   refused-unready h x = refused-beyond text records events errors r after e h (x .within) (x .lexed)
 
   module _ (z : r .refusal ≡ 0) where
@@ -42,10 +43,10 @@ module _ (text records events errors : List ℕ) (r : Lexed) (after : List ℕ) 
     bytes = take (6 * r .records) after
 
     abbrev inner : Outcome
-    inner = documentRun bytes (r .base) events errors
+    inner = documentRun options bytes (r .base) events errors
 
     is-inner : run ≡ inner
-    is-inner = run-is text records events errors r after e z
+    is-inner = run-is text records events errors r after e z options
 
     tokens : allTokens bytes (r .base) ≡ tokensOf text
     tokens = tokens-are text records events errors r after e z
@@ -64,7 +65,7 @@ module _ (text records events errors : List ℕ) (r : Lexed) (after : List ℕ) 
     inner-quiet q = subst QuietRun is-inner q
 
     -- a premise about the text is one about its records
-    ready : TextReady text records events errors → Ready bytes (r .base) events errors
+    ready : TextReady options text records events errors → Ready options bytes (r .base) events errors
     ready x =
         record {
           passed = few-pass text records events errors r after e z (x .within .few);
@@ -82,46 +83,46 @@ module _ (text records events errors : List ℕ) (r : Lexed) (after : List ℕ) 
     exactly-of : (P : List Tok → Type 0) → Clean inner ↔ P (allTokens bytes (r .base)) → Clean run ↔ P (tokensOf text)
     exactly-of P x = both-ways (subst Clean is-inner) (subst Clean (sym is-inner)) (subst P (sym tokens)) (subst P tokens) x
 
-    pub exactly-within-of : (Ready bytes (r .base) events errors → Clean inner ↔ FitsWithin maxDepth (allTokens bytes (r .base)))
-        → TextReady text records events errors → Clean run ↔ FitsWithin maxDepth (tokensOf text)
+    pub exactly-within-of : (Ready options bytes (r .base) events errors → Clean inner ↔ FitsWithin maxDepth (allTokens bytes (r .base)))
+        → TextReady options text records events errors → Clean run ↔ FitsWithin maxDepth (tokensOf text)
     exactly-within-of x y = exactly-of (FitsWithin maxDepth) (x (ready y))
 
-    pub exactly-fits-of : (Ready bytes (r .base) events errors → NestedWithin maxDepth (allTokens bytes (r .base)) → Clean inner ↔ Fits (allTokens bytes (r .base)))
-        → TextReady text records events errors → NestedWithin maxDepth (tokensOf text) → Clean run ↔ Fits (tokensOf text)
+    pub exactly-fits-of : (Ready options bytes (r .base) events errors → NestedWithin maxDepth (allTokens bytes (r .base)) → Clean inner ↔ Fits (allTokens bytes (r .base)))
+        → TextReady options text records events errors → NestedWithin maxDepth (tokensOf text) → Clean run ↔ Fits (tokensOf text)
     exactly-fits-of x y n = exactly-of Fits (x (ready y) (subst (NestedWithin maxDepth) (sym tokens) n))
 
     pub ends-of : (Regular (allTokens bytes (r .base)) → QuietRun inner → EndToEnd (r .base) (eventsLeft inner) (textEnd (r .base) (allTokens bytes (r .base))))
-        → QuietRun run → EndToEnd (textOutcome text records events errors .answer .base) (eventsLeft run) (length text)
+        → QuietRun run → EndToEnd (textOutcome options text records events errors .answer .base) (eventsLeft run) (length text)
     ends-of x q =
-        subst (λ (o : Outcome). EndToEnd (textOutcome text records events errors .answer .base) (eventsLeft o) (length text)) (sym is-inner)
-        (subst₂ (λ (p n : ℕ). EndToEnd p (eventsLeft inner) n) (base-is text records events errors r after e) end-is (x regular (inner-quiet q)))
+        subst (λ (o : Outcome). EndToEnd (textOutcome options text records events errors .answer .base) (eventsLeft o) (length text)) (sym is-inner)
+        (subst₂ (λ (p n : ℕ). EndToEnd p (eventsLeft inner) n) (base-is text records events errors r after e options) end-is (x regular (inner-quiet q)))
 
     pub nests-of : (Regular (allTokens bytes (r .base)) → QuietRun inner → Nests [] (eventsLeft inner) []) → QuietRun run → Nests [] (eventsLeft run) []
     nests-of x q = subst (λ (o : Outcome). Nests [] (eventsLeft o) []) (sym is-inner) (x regular (inner-quiet q))
 
 -- the theorem about two lists of records, with a base of its own for the second
-abbrev pub SameOf : List ℕ → ℕ → List ℕ → List ℕ → List ℕ → List ℕ → List ℕ → ℕ → Type 0
-SameOf s base events errors s′ events′ errors′ base′ =
-    Regular (allTokens s base) → Regular (allTokens s′ base′) → QuietRun (documentRun s base events errors) → QuietRun (documentRun s′ base′ events′ errors′)
-    → eventsLeft (documentRun s base events errors) ≡ eventsLeft (documentRun s′ base′ events′ errors′)
-    → SameButForCuts (eventsLeft (documentRun s base events errors)) (allTokens s base) (allTokens s′ base′)
+abbrev pub SameOf : Options → Options → List ℕ → ℕ → List ℕ → List ℕ → List ℕ → List ℕ → List ℕ → ℕ → Type 0
+SameOf options other s base events errors s′ events′ errors′ base′ =
+    Regular (allTokens s base) → Regular (allTokens s′ base′) → QuietRun (documentRun options s base events errors) → QuietRun (documentRun other s′ base′ events′ errors′)
+    → eventsLeft (documentRun options s base events errors) ≡ eventsLeft (documentRun other s′ base′ events′ errors′)
+    → SameButForCuts (eventsLeft (documentRun options s base events errors)) (allTokens s base) (allTokens s′ base′)
 
 -- two texts that were lexed
-pub same-of : (text records events errors : List ℕ) (r : Lexed) (after : List ℕ) (e : record { answer = r; buffer = after } ≡ lexOutcome text records) (z : r .refusal ≡ 0)
+pub same-of : (options other : Options) (text records events errors : List ℕ) (r : Lexed) (after : List ℕ) (e : record { answer = r; buffer = after } ≡ lexOutcome text records) (z : r .refusal ≡ 0)
     → (text′ records′ events′ errors′ : List ℕ) (r′ : Lexed) (after′ : List ℕ) (e′ : record { answer = r′; buffer = after′ } ≡ lexOutcome text′ records′) (z′ : r′ .refusal ≡ 0)
-    → SameOf (take (6 * r .records) after) (r .base) events errors (take (6 * r′ .records) after′) events′ errors′ (r .base)
-    → QuietRun (textRun text records events errors) → QuietRun (textRun text′ records′ events′ errors′)
-    → textOutcome text records events errors .answer .base ≡ textOutcome text′ records′ events′ errors′ .answer .base
-    → eventsLeft (textRun text records events errors) ≡ eventsLeft (textRun text′ records′ events′ errors′)
-    → SameButForCuts (eventsLeft (textRun text records events errors)) (tokensOf text) (tokensOf text′)
-same-of text records events errors r after e z text′ records′ events′ errors′ r′ after′ e′ z′ x q q′ b s =
-    let run = run-is text records events errors r after e z in
-    let run′ = run-is text′ records′ events′ errors′ r′ after′ e′ z′ in
-    let based : r .base ≡ r′ .base = base-is text records events errors r after e ∙ b ∙ sym (base-is text′ records′ events′ errors′ r′ after′ e′) in
-    let y = subst (SameOf (take (6 * r .records) after) (r .base) events errors (take (6 * r′ .records) after′) events′ errors′) based x in
+    → SameOf options other (take (6 * r .records) after) (r .base) events errors (take (6 * r′ .records) after′) events′ errors′ (r .base)
+    → QuietRun (textRun options text records events errors) → QuietRun (textRun other text′ records′ events′ errors′)
+    → textOutcome options text records events errors .answer .base ≡ textOutcome other text′ records′ events′ errors′ .answer .base
+    → eventsLeft (textRun options text records events errors) ≡ eventsLeft (textRun other text′ records′ events′ errors′)
+    → SameButForCuts (eventsLeft (textRun options text records events errors)) (tokensOf text) (tokensOf text′)
+same-of options other text records events errors r after e z text′ records′ events′ errors′ r′ after′ e′ z′ x q q′ b s =
+    let run = run-is text records events errors r after e z options in
+    let run′ = run-is text′ records′ events′ errors′ r′ after′ e′ z′ other in
+    let based : r .base ≡ r′ .base = base-is text records events errors r after e options ∙ b ∙ sym (base-is text′ records′ events′ errors′ r′ after′ e′ other) in
+    let y = subst (SameOf options other (take (6 * r .records) after) (r .base) events errors (take (6 * r′ .records) after′) events′ errors′) based x in
     let same =
     y (regular-are text records events errors r after e z) (regular-are text′ records′ events′ errors′ r′ after′ e′ z′) (subst QuietRun run q) (subst QuietRun run′ q′)
     (ap eventsLeft (sym run) ∙ s ∙ ap eventsLeft run′) in
     subst (λ (o : Outcome). SameButForCuts (eventsLeft o) (tokensOf text) (tokensOf text′)) (sym run)
-    (subst₂ (λ (ts us : List Tok). SameButForCuts (eventsLeft (documentRun (take (6 * r .records) after) (r .base) events errors)) ts us)
+    (subst₂ (λ (ts us : List Tok). SameButForCuts (eventsLeft (documentRun options (take (6 * r .records) after) (r .base) events errors)) ts us)
     (tokens-are text records events errors r after e z) (tokens-are text′ records′ events′ errors′ r′ after′ e′ z′) same)

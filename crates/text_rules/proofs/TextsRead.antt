@@ -9,7 +9,7 @@ use Rattle.token.specs.Writing.{recordsOf}
 use Rattle.rules.specs.Turns.{turns}
 use Rattle.rules.specs.Nest.{onOpen}
 use Rattle.rules.specs.Lines.{lineOf}
-use Rattle.rules.specs.Words.{lookedUp}
+use Rattle.rules.specs.Words.{lookedUp, commaBetween}
 use Rattle.rules.specs.Answer.{outcome, walked, filled}
 use Rattle.rules.specs.Texts.{texts, furtherTexts}
 use Rattle.places.specs.Places.{peeks}
@@ -20,9 +20,9 @@ use Rattle.text_rules.specs.TextOutcome.{textOutcome}
 use Rattle.text_rules.specs.TextsRead.{readings, documentTexts, outcomesOf, outcomesWritten, strangeTexts, toldBy, asGiven}
 
 pub documents-read : (w : ℕ) → outcomesOf w documentTexts ≡ outcomesWritten w readings
-unfolding texts furtherTexts turns onOpen lookedUp lineOf kindOf lengthAt kindNumberAt tokensFrom allTokens checkedFrom checked recordsOf outcome walked filled peeks fits validFrom startOf until lexLiteralString lexMlLiteralString escapable lexBasicString lexMlBasicString lexer tokensOf lexOutcome textOutcome readings documentTexts
+unfolding texts furtherTexts turns onOpen lookedUp commaBetween lineOf kindOf lengthAt kindNumberAt tokensFrom allTokens checkedFrom checked recordsOf outcome walked filled peeks fits validFrom startOf until lexLiteralString lexMlLiteralString escapable lexBasicString lexMlBasicString lexer tokensOf lexOutcome textOutcome readings documentTexts
 documents-read w = refl
 
 pub strange-read : toldBy strangeTexts ≡ asGiven strangeTexts
-unfolding turns onOpen lookedUp lineOf kindOf lengthAt kindNumberAt tokensFrom allTokens checkedFrom checked recordsOf outcome walked filled peeks fits validFrom startOf until lexLiteralString lexMlLiteralString escapable lexBasicString lexMlBasicString lexer tokensOf lexOutcome textOutcome strangeTexts
+unfolding turns onOpen lookedUp commaBetween lineOf kindOf lengthAt kindNumberAt tokensFrom allTokens checkedFrom checked recordsOf outcome walked filled peeks fits validFrom startOf until lexLiteralString lexMlLiteralString escapable lexBasicString lexMlBasicString lexer tokensOf lexOutcome textOutcome strangeTexts
 strange-read = refl

@@ -14,6 +14,7 @@ use Rattle.token.specs.Tokens.{allTokens}
 use Rattle.token.specs.Check.{checked}
 use Rattle.rules.specs.Answer.{Outcome}
 use Rattle.fitting.specs.Quiet.{QuietRun}
+use Rattle.rules.specs.declared.options.Options.{Options}
 use Rattle.fitting.specs.Premises.{Regular, documentRun}
 use Rattle.lex.specs.declared.Lexed.{Lexed}
 use Rattle.scan.specs.Lexer.{tokensOf}
@@ -25,27 +26,27 @@ use Rattle.text_rules.specs.RegularLaws.{text-regular}
 
 -- what the lexer answered, with the record buffer after it
 module _ (text records events errors : List ℕ) (r : Lexed) (after : List ℕ) (e : record { answer = r; buffer = after } ≡ lexOutcome text records) where
-  run-by : (b : Bool) → eqb (r .refusal) 0 ≡ b → textRun text records events errors ≡ readingBy b (record { answer = r; buffer = after }) events errors
+  run-by : (options : Options) (b : Bool) → eqb (r .refusal) 0 ≡ b → textRun options text records events errors ≡ readingBy options b (record { answer = r; buffer = after }) events errors
   unfolding textOutcome
-  run-by b q =
-      ap (λ (x : LexOutcome). reading x events errors) (sym e)
-      ∙ ap (λ (x : Bool). readingBy x (record { answer = r; buffer = after }) events errors) q
+  run-by options b q =
+      ap (λ (x : LexOutcome). reading options x events errors) (sym e)
+      ∙ ap (λ (x : Bool). readingBy options x (record { answer = r; buffer = after }) events errors) q
 
-  pub base-is : r .base ≡ textOutcome text records events errors .answer .base
+  pub base-is : (options : Options) → r .base ≡ textOutcome options text records events errors .answer .base
   unfolding textOutcome
-  base-is = ap (λ (x : LexOutcome). x .answer .base) e
+  base-is options = ap (λ (x : LexOutcome). x .answer .base) e
 
-  pub buffer-is : after ≡ textOutcome text records events errors .records
+  pub buffer-is : (options : Options) → after ≡ textOutcome options text records events errors .records
   unfolding textOutcome
-  buffer-is = ap (λ (x : LexOutcome). x .buffer) e
+  buffer-is options = ap (λ (x : LexOutcome). x .buffer) e
 
   -- a text that was refused
   module _ (h : r .refusal ≡ 0 → ⊥) where
-    pub run-refused : textRun text records events errors ≡ record { answer = record { refusal = r .refusal; place = r .place; events = 0; errors = 0 }; events = events; errors = errors }
-    run-refused = run-by false (ne-eqb _ _ h)
+    pub run-refused : (options : Options) → textRun options text records events errors ≡ record { answer = record { refusal = r .refusal; place = r .place; events = 0; errors = 0 }; events = events; errors = errors }
+    run-refused options = run-by options false (ne-eqb _ _ h)
 
-    pub refused-loud : QuietRun (textRun text records events errors) → ⊥
-    refused-loud q = h (ap (λ (o : Outcome). o .answer .refusal) (sym run-refused) ∙ q .accepted)
+    pub refused-loud : (options : Options) → QuietRun (textRun options text records events errors) → ⊥
+    refused-loud options q = h (ap (λ (o : Outcome). o .answer .refusal) (sym (run-refused options)) ∙ q .accepted)
 
     pub refused-beyond : WithinLimits text → RecordRoom text records → ⊥
     refused-beyond x room = h (ap (λ (y : LexOutcome). y .answer .refusal) (e ∙ lexed-when text records (x .short) (x .formed) room))
@@ -58,8 +59,8 @@ module _ (text records events errors : List ℕ) (r : Lexed) (after : List ℕ) 
     pub refusal-none : lexOutcome text records .answer .refusal ≡ 0
     refusal-none = ap (λ (x : LexOutcome). x .answer .refusal) (sym e) ∙ z
 
-    pub run-is : textRun text records events errors ≡ documentRun bytes (r .base) events errors
-    run-is = run-by true (eq-eqb _ _ z)
+    pub run-is : (options : Options) → textRun options text records events errors ≡ documentRun options bytes (r .base) events errors
+    run-is options = run-by options true (eq-eqb _ _ z)
 
     pub tokens-are : allTokens bytes (r .base) ≡ tokensOf text
     tokens-are = ap (λ (x : LexOutcome). allTokens (recordsLeft x) (x .answer .base)) e ∙ lexed-tokens text records refusal-none

@@ -7,6 +7,7 @@ use Prim.Native.Nat.{ℕ, _*_}
 use lib.ListN.{take}
 use lib.Dec.{eqb}
 use Rattle.rules.specs.Entries.{documentEntry}
+use Rattle.rules.specs.declared.options.Options.{Options}
 use Rattle.rules.specs.Answer.{Outcome, outcome}
 use Rattle.lex.specs.Lexed.{LexOutcome, lexOutcome}
 use Rattle.text_rules.specs.declared.answer.TextAnswer.{TextAnswer}
@@ -23,12 +24,12 @@ abbrev pub recordsLeft : LexOutcome → List ℕ
 recordsLeft lexed = take (6 * lexed .answer .records) (lexed .buffer)
 
 -- what reading gives: a text that was lexed is read as a document; one that was refused is not read, and nothing is written
-abbrev pub readingBy : Bool → LexOutcome → List ℕ → List ℕ → Outcome
-readingBy true lexed events errors = outcome documentEntry (recordsLeft lexed) (lexed .answer .base) events errors
-readingBy false lexed events errors = record { answer = record { refusal = lexed .answer .refusal; place = lexed .answer .place; events = 0; errors = 0 }; events = events; errors = errors }
+abbrev pub readingBy : Options → Bool → LexOutcome → List ℕ → List ℕ → Outcome
+readingBy options true lexed events errors = outcome options documentEntry (recordsLeft lexed) (lexed .answer .base) events errors
+readingBy options false lexed events errors = record { answer = record { refusal = lexed .answer .refusal; place = lexed .answer .place; events = 0; errors = 0 }; events = events; errors = errors }
 
-abbrev pub reading : LexOutcome → List ℕ → List ℕ → Outcome
-reading lexed events errors = readingBy (eqb (lexed .answer .refusal) 0) lexed events errors
+abbrev pub reading : Options → LexOutcome → List ℕ → List ℕ → Outcome
+reading options lexed events errors = readingBy options (eqb (lexed .answer .refusal) 0) lexed events errors
 
 -- both together: base, count of records and record buffer are the lexer's, all else is the reading's
 abbrev pub lexedAndRead : LexOutcome → Outcome → TextOutcome
@@ -47,20 +48,20 @@ lexedAndRead lexed read =
       errors = read .errors;
     }
 
--- what the joined entry does with a text and the three buffers
-unfoldable pub textOutcome : List ℕ → List ℕ → List ℕ → List ℕ → TextOutcome
-textOutcome text records events errors = lexedAndRead (lexOutcome text records) (reading (lexOutcome text records) events errors)
+-- what the joined entry does, with the options, with a text and the three buffers
+unfoldable pub textOutcome : Options → List ℕ → List ℕ → List ℕ → List ℕ → TextOutcome
+textOutcome options text records events errors = lexedAndRead (lexOutcome text records) (reading options (lexOutcome text records) events errors)
 
 -- the answer r, with the three buffers after it, is that of the definition: one equation for all inputs, refusals too
-abbrev pub TextAnswers : List ℕ → List ℕ → List ℕ → List ℕ → List ℕ → List ℕ → List ℕ → TextAnswer → Type 0
-TextAnswers text records events errors recordsAfter eventsAfter errorsAfter r =
-    record { answer = r; records = recordsAfter; events = eventsAfter; errors = errorsAfter } ≡ textOutcome text records events errors
+abbrev pub TextAnswers : Options → List ℕ → List ℕ → List ℕ → List ℕ → List ℕ → List ℕ → List ℕ → TextAnswer → Type 0
+TextAnswers options text records events errors recordsAfter eventsAfter errorsAfter r =
+    record { answer = r; records = recordsAfter; events = eventsAfter; errors = errorsAfter } ≡ textOutcome options text records events errors
 
 -- two answers, each with the buffers after it, that are that of the definition are equal
 abbrev pub TextDetermined : List ℕ → List ℕ → List ℕ → List ℕ → Type 0
 TextDetermined text records events errors =
-    (x y : TextOutcome) → TextAnswers text records events errors (x .records) (x .events) (x .errors) (x .answer)
-    → TextAnswers text records events errors (y .records) (y .events) (y .errors) (y .answer) → x ≡ y
+    (options : Options) (x y : TextOutcome) → TextAnswers options text records events errors (x .records) (x .events) (x .errors) (x .answer)
+    → TextAnswers options text records events errors (y .records) (y .events) (y .errors) (y .answer) → x ≡ y
 
 -- the part of it that a run of the document entry has
 abbrev pub runOf : TextOutcome → Outcome
@@ -72,5 +73,5 @@ runOf o =
     }
 
 -- the run over a text
-abbrev pub textRun : List ℕ → List ℕ → List ℕ → List ℕ → Outcome
-textRun text records events errors = runOf (textOutcome text records events errors)
+abbrev pub textRun : Options → List ℕ → List ℕ → List ℕ → List ℕ → Outcome
+textRun options text records events errors = runOf (textOutcome options text records events errors)

@@ -8,6 +8,7 @@ use Rattle.token.specs.Limits.{maxRecords, maxEnd}
 use Rattle.scan.specs.Lexer.{tokensOf}
 use Rattle.utf8.specs.Utf8.{validUpTo}
 use Rattle.text_rules.specs.TextOutcome.{textRun}
+use Rattle.rules.specs.declared.options.Options.{Options}
 
 -- the text is within the limits: its length (refusal 9), UTF-8 (10), the count of its tokens (2)
 pub record WithinLimits (text : List ℕ) : Type 0 where
@@ -20,7 +21,7 @@ abbrev pub RecordRoom : List ℕ → List ℕ → Type 0
 RecordRoom text records = length (tokensOf text) ≤ length records / 6
 
 -- no refusal comes but 6, which is of the nesting, and 8, which is of errors: this says nothing of the grammar
-pub record TextReady (text records events errors : List ℕ) : Type 0 where
+pub record TextReady (options : Options) (text records events errors : List ℕ) : Type 0 where
   pub within : WithinLimits text
   pub lexed : RecordRoom text records
-  pub room : textRun text records events errors .answer .refusal ≡ 7 → ⊥
+  pub room : textRun options text records events errors .answer .refusal ≡ 7 → ⊥

@@ -4,7 +4,7 @@ use Prim.Native.Nat.{ℕ, _*_, _-_}
 use mathlib.Core.List.{List, [], _∷_, _++_}
 use lib.ListN.{length}
 use Rattle.rules.specs.Entries.{Entry, documentEntry, keyEntry, simpleKeyEntry, valueEntry}
-use Rattle.rules.specs.Answer.{eventSize, errorSize, joined}
+use Rattle.rules.specs.Answer.{asCrate, eventSize, errorSize, joined}
 use Rattle.rules.specs.Texts.{Text, texts, furtherTexts}
 use Rattle.rules.specs.TextWords.{recordBytes, words, simpleKey, keyValSep, scalar, basicScalar, arrayOpen, arrayClose, newline, whitespace, error, reported}
 use Rattle.text_rules.specs.Ascii.{ascii}
@@ -57,7 +57,7 @@ wordBuffer = 64
 
 abbrev pub outcomesOf : ℕ → List (List ℕ) → List TextOutcome
 outcomesOf w [] = []
-outcomesOf w (t ∷ ts) = textOutcome t (words w recordBuffer) (words w wordBuffer) (words w wordBuffer) ∷ outcomesOf w ts
+outcomesOf w (t ∷ ts) = textOutcome asCrate t (words w recordBuffer) (words w wordBuffer) (words w wordBuffer) ∷ outcomesOf w ts
 
 abbrev pub outcomesWritten : ℕ → List Text → List TextOutcome
 outcomesWritten w [] = []
@@ -136,7 +136,7 @@ pub record Told : Type 0 where
 abbrev pub toldBy : List Given → List Told
 toldBy [] = []
 toldBy (g ∷ gs) =
-    (let o = textOutcome (g .text) (words 0 recordBuffer) (words 0 wordBuffer) (words 0 wordBuffer) in
+    (let o = textOutcome asCrate (g .text) (words 0 recordBuffer) (words 0 wordBuffer) (words 0 wordBuffer) in
     record { refusal = o .answer .refusal; base = o .answer .base; events = o .events; reports = o .errors }) ∷ toldBy gs
 
 abbrev pub asGiven : List Given → List Told

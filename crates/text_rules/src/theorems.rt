@@ -11,6 +11,7 @@ ghost use mathlib.Core.Path.{_≡_};
 ghost use mathlib.Core.Logic.{_↔_};
 ghost use mathlib.Core.List.{[]};
 ghost use lib.ListN.{length};
+ghost use Rattle.rules.specs.declared.options.Options.{Options};
 ghost use Rattle.rules.specs.Limits.{maxDepth};
 ghost use Rattle.fitting.specs.Quiet.{QuietRun, NoMultiLineKey};
 ghost use Rattle.fitting.specs.Grammar.{FitsWithin, Fits};
@@ -42,8 +43,9 @@ pub fn text_tokens_are_regular(text: &[u8])
 
 // If the run over a text is quiet and has no multi-line key, its tokens fit the token grammar. Nothing is supposed but the run.
 pub fn quiet_text_fits(text: &[u8], records: &mut [u8], events: &[u32], errors: &[u32])
-    ensures { λ _. ⌜ (QuietRun (textRun (now (text .entry)) (now (records .entry)) (now (events .entry)) (now (errors .entry)))
-        → NoMultiLineKey (textRun (now (text .entry)) (now (records .entry)) (now (events .entry)) (now (errors .entry)))
+    ensures { λ _. ⌜ ((options : Options)
+        → QuietRun (textRun options (now (text .entry)) (now (records .entry)) (now (events .entry)) (now (errors .entry)))
+        → NoMultiLineKey (textRun options (now (text .entry)) (now (records .entry)) (now (events .entry)) (now (errors .entry)))
         → Fits (tokensOf (now (text .entry)))) ⌝ }
 {
     let lexed = lex(text, records);
@@ -63,8 +65,9 @@ pub fn text_quiet_exactly_when_fits_within(
     events: &[u32],
     errors: &[u32],
 )
-    ensures { λ _. ⌜ (TextReady (now (text .entry)) (now (records .entry)) (now (events .entry)) (now (errors .entry))
-        → ((QuietRun (textRun (now (text .entry)) (now (records .entry)) (now (events .entry)) (now (errors .entry))) × NoMultiLineKey (textRun (now (text .entry)) (now (records .entry)) (now (events .entry)) (now (errors .entry)))) ↔ FitsWithin maxDepth (tokensOf (now (text .entry))))) ⌝ }
+    ensures { λ _. ⌜ ((options : Options)
+        → TextReady options (now (text .entry)) (now (records .entry)) (now (events .entry)) (now (errors .entry))
+        → ((QuietRun (textRun options (now (text .entry)) (now (records .entry)) (now (events .entry)) (now (errors .entry))) × NoMultiLineKey (textRun options (now (text .entry)) (now (records .entry)) (now (events .entry)) (now (errors .entry)))) ↔ FitsWithin maxDepth (tokensOf (now (text .entry))))) ⌝ }
 {
     let lexed = lex(text, records);
     let refusal = lexed.refusal;
@@ -77,9 +80,10 @@ pub fn text_quiet_exactly_when_fits_within(
 
 // The same with the depth as a premise on the tokens: quiet without a multi-line key exactly when they fit.
 pub fn text_quiet_exactly_when_fits(text: &[u8], records: &mut [u8], events: &[u32], errors: &[u32])
-    ensures { λ _. ⌜ (TextReady (now (text .entry)) (now (records .entry)) (now (events .entry)) (now (errors .entry))
+    ensures { λ _. ⌜ ((options : Options)
+        → TextReady options (now (text .entry)) (now (records .entry)) (now (events .entry)) (now (errors .entry))
         → NestedWithin maxDepth (tokensOf (now (text .entry)))
-        → ((QuietRun (textRun (now (text .entry)) (now (records .entry)) (now (events .entry)) (now (errors .entry))) × NoMultiLineKey (textRun (now (text .entry)) (now (records .entry)) (now (events .entry)) (now (errors .entry)))) ↔ Fits (tokensOf (now (text .entry))))) ⌝ }
+        → ((QuietRun (textRun options (now (text .entry)) (now (records .entry)) (now (events .entry)) (now (errors .entry))) × NoMultiLineKey (textRun options (now (text .entry)) (now (records .entry)) (now (events .entry)) (now (errors .entry)))) ↔ Fits (tokensOf (now (text .entry))))) ⌝ }
 {
     let lexed = lex(text, records);
     let refusal = lexed.refusal;
@@ -92,9 +96,10 @@ pub fn text_quiet_exactly_when_fits(text: &[u8], records: &mut [u8], events: &[u
 
 // The events that a quiet run over a text leaves lie end to end, from the base that is answered to the end of the text.
 pub fn text_events_end_to_end(text: &[u8], records: &mut [u8], events: &[u32], errors: &[u32])
-    ensures { λ _. ⌜ (QuietRun (textRun (now (text .entry)) (now (records .entry)) (now (events .entry)) (now (errors .entry)))
-        → EndToEnd (textOutcome (now (text .entry)) (now (records .entry)) (now (events .entry)) (now (errors .entry)) .answer .base)
-        (eventsLeft (textRun (now (text .entry)) (now (records .entry)) (now (events .entry)) (now (errors .entry))))
+    ensures { λ _. ⌜ ((options : Options)
+        → QuietRun (textRun options (now (text .entry)) (now (records .entry)) (now (events .entry)) (now (errors .entry)))
+        → EndToEnd (textOutcome options (now (text .entry)) (now (records .entry)) (now (events .entry)) (now (errors .entry)) .answer .base)
+        (eventsLeft (textRun options (now (text .entry)) (now (records .entry)) (now (events .entry)) (now (errors .entry))))
         (length (now (text .entry)))) ⌝ }
 {
     let lexed = lex(text, records);
@@ -108,8 +113,9 @@ pub fn text_events_end_to_end(text: &[u8], records: &mut [u8], events: &[u32], e
 
 // Their brackets nest: none is open before the first event or after the last.
 pub fn text_brackets_nest(text: &[u8], records: &mut [u8], events: &[u32], errors: &[u32])
-    ensures { λ _. ⌜ (QuietRun (textRun (now (text .entry)) (now (records .entry)) (now (events .entry)) (now (errors .entry)))
-        → Nests [] (eventsLeft (textRun (now (text .entry)) (now (records .entry)) (now (events .entry)) (now (errors .entry)))) []) ⌝ }
+    ensures { λ _. ⌜ ((options : Options)
+        → QuietRun (textRun options (now (text .entry)) (now (records .entry)) (now (events .entry)) (now (errors .entry)))
+        → Nests [] (eventsLeft (textRun options (now (text .entry)) (now (records .entry)) (now (events .entry)) (now (errors .entry)))) []) ⌝ }
 {
     let lexed = lex(text, records);
     let refusal = lexed.refusal;
@@ -132,13 +138,14 @@ pub fn text_events_determine_tokens(
     other_events: &[u32],
     other_errors: &[u32],
 )
-    ensures { λ _. ⌜ (QuietRun (textRun (now (text .entry)) (now (records .entry)) (now (events .entry)) (now (errors .entry)))
-        → QuietRun (textRun (now («other_text» .entry)) (now («other_records» .entry)) (now («other_events» .entry)) (now («other_errors» .entry)))
-        → textOutcome (now (text .entry)) (now (records .entry)) (now (events .entry)) (now (errors .entry)) .answer .base
-        ≡ textOutcome (now («other_text» .entry)) (now («other_records» .entry)) (now («other_events» .entry)) (now («other_errors» .entry)) .answer .base
-        → eventsLeft (textRun (now (text .entry)) (now (records .entry)) (now (events .entry)) (now (errors .entry)))
-        ≡ eventsLeft (textRun (now («other_text» .entry)) (now («other_records» .entry)) (now («other_events» .entry)) (now («other_errors» .entry)))
-        → SameButForCuts (eventsLeft (textRun (now (text .entry)) (now (records .entry)) (now (events .entry)) (now (errors .entry)))) (tokensOf (now (text .entry))) (tokensOf (now («other_text» .entry)))) ⌝ }
+    ensures { λ _. ⌜ ((options other : Options)
+        → QuietRun (textRun options (now (text .entry)) (now (records .entry)) (now (events .entry)) (now (errors .entry)))
+        → QuietRun (textRun other (now («other_text» .entry)) (now («other_records» .entry)) (now («other_events» .entry)) (now («other_errors» .entry)))
+        → textOutcome options (now (text .entry)) (now (records .entry)) (now (events .entry)) (now (errors .entry)) .answer .base
+        ≡ textOutcome other (now («other_text» .entry)) (now («other_records» .entry)) (now («other_events» .entry)) (now («other_errors» .entry)) .answer .base
+        → eventsLeft (textRun options (now (text .entry)) (now (records .entry)) (now (events .entry)) (now (errors .entry)))
+        ≡ eventsLeft (textRun other (now («other_text» .entry)) (now («other_records» .entry)) (now («other_events» .entry)) (now («other_errors» .entry)))
+        → SameButForCuts (eventsLeft (textRun options (now (text .entry)) (now (records .entry)) (now (events .entry)) (now (errors .entry)))) (tokensOf (now (text .entry))) (tokensOf (now («other_text» .entry)))) ⌝ }
 {
     let lexed = lex(text, records);
     let refusal = lexed.refusal;

@@ -15,7 +15,7 @@ use Rattle.token.specs.CheckLaws.{checked-passes}
 use Rattle.token.specs.CursorLaws.{all-length}
 use Rattle.rules.specs.Limits.{maxDepth}
 use Rattle.rules.specs.declared.answer.Answer.{Answer}
-use Rattle.rules.specs.Answer.{eventSize, Outcome}
+use Rattle.rules.specs.Answer.{asCrate, eventSize, Outcome}
 use Rattle.fitting.specs.Grammar.{FitsWithin}
 use Rattle.fitting.specs.Premises.{documentRun}
 use Rattle.verdicts.specs.declared.verdict.Verdict.{Verdict}
@@ -33,7 +33,7 @@ use Rattle.texts.specs.TextVerdicts.{SoundText, EventRoom, textRefusalOf
 -- what the lexer answered, with the record buffer after it
 module _ (text records events : List ℕ) (r : Lexed) (after : List ℕ) (e : record { answer = r; buffer = after } ≡ lexOutcome text records) where
   abbrev run : Outcome
-  run = textRun text records events []
+  run = textRun asCrate text records events []
 
   -- whether there is too little room for events
   abbrev tight : Bool
@@ -50,8 +50,8 @@ module _ (text records events : List ℕ) (r : Lexed) (after : List ℕ) (e : re
         yes = (λ f. absurd (false≢true f), λ x. absurd (refused-beyond text records events [] r after e h (x .0 .within) (x .1)));
         refusal = ap (λ (z : Bool). cond z (refusalOf (run .answer) tight) (r .refusal)) (sym b) ∙ ap (λ (z : Lexed). textRefusalOf z (run .answer) tight) (sym lexed-is);
         place = ap (λ (z : Bool). cond z (placeOf (run .answer)) (r .place)) (sym b) ∙ ap (λ (z : Lexed). textPlaceOf z (run .answer)) (sym lexed-is);
-        recordsLeft = buffer-is text records events [] r after e;
-        eventsLeft = ap (λ (o : Outcome). o .events) (sym (run-refused text records events [] r after e h));
+        recordsLeft = buffer-is text records events [] r after e asCrate;
+        eventsLeft = ap (λ (o : Outcome). o .events) (sym (run-refused text records events [] r after e h asCrate));
       }
 
   -- its refusal is answered, and no yes
@@ -76,8 +76,8 @@ module _ (text records events : List ℕ) (r : Lexed) (after : List ℕ) (e : re
     counted : count bytes ≡ length (tokensOf text)
     counted = sym (all-length bytes (r .base)) ∙ ap length tokens
 
-    same-run : run ≡ documentRun bytes (r .base) events []
-    same-run = run-is text records events [] r after e z
+    same-run : run ≡ documentRun asCrate bytes (r .base) events []
+    same-run = run-is text records events [] r after e z asCrate
 
     sound-text : Sound bytes (r .base) → SoundText text
     sound-text x =
@@ -102,19 +102,19 @@ module _ (text records events : List ℕ) (r : Lexed) (after : List ℕ) (e : re
     yes-records : TextYes → Sound bytes (r .base) × Roomy bytes events
     yes-records x = (sound-records (x .0), subst (λ (n : ℕ). n ≤ length events / eventSize) (sym counted) (x .2))
 
-    refusal-text : refusalOf (documentRun bytes (r .base) events [] .answer) (ltb (length events / eventSize) (count bytes)) ≡ textRefusalOf (lexOutcome text records .answer) (run .answer) tight
+    refusal-text : refusalOf (documentRun asCrate bytes (r .base) events [] .answer) (ltb (length events / eventSize) (count bytes)) ≡ textRefusalOf (lexOutcome text records .answer) (run .answer) tight
     refusal-text =
         ap₂ refusalOf (ap (λ (o : Outcome). o .answer) (sym same-run)) (ap (ltb (length events / eventSize)) counted)
         ∙ ap (λ (t : Bool). cond t (refusalOf (run .answer) tight) (r .refusal)) (sym (eq-eqb (r .refusal) 0 z))
         ∙ ap (λ (l : Lexed). textRefusalOf l (run .answer) tight) (sym lexed-is)
 
-    place-text : placeOf (documentRun bytes (r .base) events [] .answer) ≡ textPlaceOf (lexOutcome text records .answer) (run .answer)
+    place-text : placeOf (documentRun asCrate bytes (r .base) events [] .answer) ≡ textPlaceOf (lexOutcome text records .answer) (run .answer)
     place-text =
         ap (λ (o : Outcome). placeOf (o .answer)) (sym same-run)
         ∙ ap (λ (t : Bool). cond t (placeOf (run .answer)) (r .place)) (sym (eq-eqb (r .refusal) 0 z))
         ∙ ap (λ (l : Lexed). textPlaceOf l (run .answer)) (sym lexed-is)
 
-    events-text : documentRun bytes (r .base) events [] .events ≡ textOutcome text records events [] .events
+    events-text : documentRun asCrate bytes (r .base) events [] .events ≡ textOutcome asCrate text records events [] .events
     events-text = ap (λ (o : Outcome). o .events) (sym same-run)
 
     pub text-judged : (eventsAfter : List ℕ) (v : Verdict) → Judges bytes (r .base) events eventsAfter v → JudgesText text records events after eventsAfter v
@@ -123,14 +123,14 @@ module _ (text records events : List ℕ) (r : Lexed) (after : List ℕ) (e : re
           yes = (λ f. yes-text (j .yes .0 f), λ x. j .yes .1 (yes-records x));
           refusal = j .refusal ∙ refusal-text;
           place = j .place ∙ place-text;
-          recordsLeft = buffer-is text records events [] r after e;
+          recordsLeft = buffer-is text records events [] r after e asCrate;
           eventsLeft = j .left ∙ events-text;
         }
 
     -- too many records: they are not judged
     pub text-many-unjudged : maxRecords < r .records → JudgesText text records events after events (record { fits = false; refusal = 2; place = maxRecords })
     text-many-unjudged many =
-        let q = text-many text records events [] r after e z many in
+        let q = text-many text records events [] r after e z asCrate many in
         let b = eq-eqb (r .refusal) 0 z in
         let two : Answer = record { refusal = 2; place = maxRecords; events = 0; errors = 0 } in
         let all : r .records ≡ length (tokensOf text) = ap (λ (x : LexOutcome). x .answer .records) e ∙ lexed-count text records (refusal-none text records events [] r after e z) in
@@ -144,7 +144,7 @@ module _ (text records events : List ℕ) (r : Lexed) (after : List ℕ) (e : re
               ap (λ (t : Bool). cond t maxRecords (r .place)) (sym b)
               ∙ ap (λ (l : Lexed). textPlaceOf l two) (sym lexed-is)
               ∙ ap (λ (o : TextOutcome). textPlaceOf (lexOutcome text records .answer) (runOf o .answer)) q;
-          recordsLeft = buffer-is text records events [] r after e;
+          recordsLeft = buffer-is text records events [] r after e asCrate;
           eventsLeft = ap (λ (o : TextOutcome). o .events) q;
         }
 

@@ -8,7 +8,7 @@ use lib.ListN.{length}
 use lib.Dec.{eqb, ltb}
 use Rattle.rules.specs.Limits.{maxDepth}
 use Rattle.rules.specs.declared.answer.Answer.{Answer}
-use Rattle.rules.specs.Answer.{eventSize}
+use Rattle.rules.specs.Answer.{asCrate, eventSize}
 use Rattle.fitting.specs.Grammar.{FitsWithin}
 use Rattle.verdicts.specs.declared.verdict.Verdict.{Verdict}
 use Rattle.verdicts.specs.Verdicts.{refusalOf, placeOf}
@@ -39,10 +39,10 @@ textPlaceOf lexed answer = cond (eqb (lexed .refusal) 0) (placeOf answer) (lexed
 -- as the joined entry leaves them that has no room for errors
 pub record JudgesText (text records events recordsAfter eventsAfter : List ℕ) (v : Verdict) : Type 0 where
   pub yes : (v .fits ≡ true) ↔ (SoundText text × RecordRoom text records × EventRoom text events)
-  pub refusal : v .refusal ≡ textRefusalOf (lexOutcome text records .answer) (textRun text records events [] .answer) (ltb (length events / eventSize) (length (tokensOf text)))
-  pub place : v .place ≡ textPlaceOf (lexOutcome text records .answer) (textRun text records events [] .answer)
-  pub recordsLeft : recordsAfter ≡ textOutcome text records events [] .records
-  pub eventsLeft : eventsAfter ≡ textOutcome text records events [] .events
+  pub refusal : v .refusal ≡ textRefusalOf (lexOutcome text records .answer) (textRun asCrate text records events [] .answer) (ltb (length events / eventSize) (length (tokensOf text)))
+  pub place : v .place ≡ textPlaceOf (lexOutcome text records .answer) (textRun asCrate text records events [] .answer)
+  pub recordsLeft : recordsAfter ≡ textOutcome asCrate text records events [] .records
+  pub eventsLeft : eventsAfter ≡ textOutcome asCrate text records events [] .events
 
 -- an answer of `text_fits` with the buffers behind it
 pub record TextJudgement : Type 0 where

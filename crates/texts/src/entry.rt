@@ -1,6 +1,7 @@
 // The joined entry: a text and three lent buffers in; the answer out, and the buffers filled.
 use entries::entries::read_document;
 use lex::lex;
+use rules::options::Options;
 use text_rules::answer::TextAnswer;
 use token::checked::MAX_RECORDS;
 ghost use mathlib.Core.Path.{_≡_};
@@ -9,11 +10,12 @@ ghost use Rattle.text_rules.specs.TextOutcome.{TextAnswers};
 // Lexes, then reads. The records are the lexer's and pass the check, but that there may be too many: so only they are counted.
 pub fn parse_text(
     text: &[u8],
+    options: Options,
     records: &mut [u8],
     events: &mut [u32],
     errors: &mut [u32],
 ) -> TextAnswer
-    ensures { λ r. ⌜ TextAnswers (now (text .entry)) (now (records .entry)) (now (events .entry)) (now (errors .entry)) (now (records .exit)) (now (events .exit)) (now (errors .exit)) r ⌝ }
+    ensures { λ r. ⌜ TextAnswers options (now (text .entry)) (now (records .entry)) (now (events .entry)) (now (errors .entry)) (now (records .exit)) (now (events .exit)) (now (errors .exit)) r ⌝ }
 {
     let lexed = lex(text, records);
     let refusal = lexed.refusal;
@@ -41,7 +43,7 @@ pub fn parse_text(
         };
     }
     let size = 6 * count;
-    let read = read_document(&records[..size], base, events, errors);
+    let read = read_document(&records[..size], base, options, events, errors);
     TextAnswer {
         refusal: read.refusal,
         place: read.place,

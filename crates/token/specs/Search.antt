@@ -1,6 +1,8 @@
 -- Looking back for a token. Assumes nothing.
 use mathlib.Core.Bool.{Bool, true, false, cond}
 use mathlib.Core.List.{List, [], _∷_}
+use Prim.Native.Nat.{ℕ}
+use lib.ListN.{take, drop}
 use Rattle.token.specs.declared.kind.Kind.{Kind}
 use Rattle.token.specs.declared.kind.InSearch.{InSearch}
 use Rattle.token.specs.declared.span.Span.{Span}
@@ -30,3 +32,7 @@ isSought what k = stopsAt what (inSearch k)
 abbrev pub nearest : Sought → Span → List Tok → Span
 nearest what none [] = none
 nearest what none (tok k a b ∷ ts) = nearest what (cond (isSought what k) (record { start = a; end = b }) none) ts
+
+-- the same of the tokens before the record `past` and not before the record `first`; where `first` is 0, all that stand before `past` count
+abbrev pub nearestBetween : Sought → Span → ℕ → ℕ → List Tok → Span
+nearestBetween what none first past all = nearest what none (drop first (take past all))

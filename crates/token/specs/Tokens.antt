@@ -3,7 +3,6 @@ use mathlib.Core.Path.{_≡_}
 use mathlib.Core.Bool.{Bool, false}
 use mathlib.Core.List.{List, [], _∷_}
 use Prim.Native.Nat.{ℕ, zero, suc, _+_, _-_, _<_, _≤_}
-use lib.ListN.{take}
 use lib.Dec.{eqb}
 use Rattle.token.specs.declared.kind.Kind.{Kind}
 use Rattle.token.specs.declared.cursor.Token.{Token}
@@ -27,12 +26,9 @@ tokensFrom (suc n) s i p = tok (kindAt s i) p (p + lengthAt s i) ∷ tokensFrom 
 unfoldable pub allTokens : List ℕ → ℕ → List Tok
 allTokens s base = tokensFrom (count s) s 0 base
 
--- the tokens from the cursor on, and those before it
+-- the tokens from the cursor on
 unfoldable pub tokensAt : List ℕ → Cursor → List Tok
 tokensAt s c = tokensFrom (count s - c .at) s (c .at) (c .place)
-
-abbrev pub tokensBefore : List ℕ → Cursor → List Tok
-tokensBefore s c = take (c .at) (allTokens s (c .base))
 
 -- the cursor's fields
 pub record At (c : Cursor) (b i p : ℕ) : Type 0 where

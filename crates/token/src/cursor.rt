@@ -8,8 +8,8 @@ use crate::record::length_at;
 use crate::span::Span;
 ghost use mathlib.Core.Path.{_≡_};
 ghost use Prim.Native.Nat.{_<_};
-ghost use Rattle.token.specs.Tokens.{Good, At, Next, NextIf, Peek, Back, tokensBefore};
-ghost use Rattle.token.specs.Search.{isSought, nearest};
+ghost use Rattle.token.specs.Tokens.{Good, At, Next, NextIf, Peek, Back, allTokens};
+ghost use Rattle.token.specs.Search.{isSought, nearestBetween};
 
 pub struct Token {
     pub kind: Kind,
@@ -149,14 +149,14 @@ impl Cursor {
         }
     }
 
-    // The nearest earlier token that is sought, or `none`.
-    pub fn nearest_before(self, s: &[u8], what: Sought, none: Span) -> Span
+    // The nearest earlier token that is sought and not before the record `first`, or `none`.
+    pub fn nearest_before(self, s: &[u8], what: Sought, none: Span, first: usize) -> Span
         requires { ⌜ Good (now s) self ⌝ }
-        ensures { λ r. ⌜ r ≡ nearest what none (tokensBefore (now (s .entry)) self) ⌝ }
+        ensures { λ r. ⌜ r ≡ nearestBetween what none first (self .at) (allTokens (now (s .entry)) (self .base)) ⌝ }
     {
         let mut at = self.at;
         let mut place = self.place;
-        while 0 < at {
+        while first < at {
             at -= 1;
             let end = place;
             place -= length_at(s, at);

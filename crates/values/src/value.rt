@@ -19,6 +19,7 @@ use output::message::MISSING_INLINE_TABLE_OPENING;
 use output::message::MISSING_VALUE;
 use rules::event::Encoding;
 use rules::event::Event;
+use rules::options::Settings;
 use rules::value::InValue;
 use rules::value::in_value;
 use scalars::scalar::on_scalar;
@@ -34,12 +35,12 @@ pub fn value(
     s: &[u8],
     c: Cursor,
     m: Counts,
-    levels: u32,
+    settings: Settings,
     events: &mut [u32],
     errors: &mut [u32],
 ) -> NestWalk
     requires { ⌜ Good (now s) c ⌝ }
-    ensures { λ r. ⌜ Nested (now (s .entry)) (value levels (tokensAt (now (s .entry)) c)) c (bufs (now (events .entry)) (now (errors .entry)) m) (now (events .exit)) (now (errors .exit)) r ⌝ }
+    ensures { λ r. ⌜ Nested (now (s .entry)) (value (settings .levels) (tokensAt (now (s .entry)) c)) c (bufs (now (events .entry)) (now (errors .entry)) m) (now (events .exit)) (now (errors .exit)) r ⌝ }
 {
     let mut cur = c;
     let mut n = m;
@@ -63,7 +64,7 @@ pub fn value(
                 cur = past;
             }
             InValue::OpenCurly => {
-                return on_inline_table_open(s, t, past, n, levels, events, errors);
+                return on_inline_table_open(s, t, past, n, settings, events, errors);
             }
             InValue::CloseCurly => {
                 n = report_before(errors, n, MISSING_INLINE_TABLE_OPENING, OPEN_CURLY, t, t);
@@ -72,7 +73,7 @@ pub fn value(
                 return unstopped(Walk { cur: past, n });
             }
             InValue::OpenSquare => {
-                return on_array_open(s, t, past, n, levels, events, errors);
+                return on_array_open(s, t, past, n, settings, events, errors);
             }
             InValue::CloseSquare => {
                 n = report_before(errors, n, MISSING_ARRAY_OPENING, OPEN_SQUARE, t, t);
@@ -94,12 +95,12 @@ pub fn usual_value(
     s: &[u8],
     c: Cursor,
     m: Counts,
-    levels: u32,
+    settings: Settings,
     events: &mut [u32],
     errors: &mut [u32],
 ) -> NestWalk
     requires { ⌜ Good (now s) c ⌝ }
-    ensures { λ r. ⌜ Nested (now (s .entry)) (value levels (tokensAt (now (s .entry)) c)) c (bufs (now (events .entry)) (now (errors .entry)) m) (now (events .exit)) (now (errors .exit)) r ⌝ }
+    ensures { λ r. ⌜ Nested (now (s .entry)) (value (settings .levels) (tokensAt (now (s .entry)) c)) c (bufs (now (events .entry)) (now (errors .entry)) m) (now (events .exit)) (now (errors .exit)) r ⌝ }
 {
     let step = c.next(s);
     match step {
@@ -112,14 +113,14 @@ pub fn usual_value(
                     let head = t;
                     let from = past;
                     let sofar = m;
-                    return on_inline_table_open(list, head, from, sofar, levels, events, errors);
+                    return on_inline_table_open(list, head, from, sofar, settings, events, errors);
                 }
                 InValue::OpenSquare => {
                     let list = s;
                     let head = t;
                     let from = past;
                     let sofar = m;
-                    return on_array_open(list, head, from, sofar, levels, events, errors);
+                    return on_array_open(list, head, from, sofar, settings, events, errors);
                 }
                 InValue::Scalar => {
                     let w = on_scalar(s, t, past, m, events, errors);
@@ -136,5 +137,5 @@ pub fn usual_value(
     let list = s;
     let from = c;
     let sofar = m;
-    value(list, from, sofar, levels, events, errors)
+    value(list, from, sofar, settings, events, errors)
 }

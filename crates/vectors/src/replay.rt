@@ -14,6 +14,8 @@ use entries::entries::parse_value;
 use rules::answer::Answer;
 use rules::answer::ERROR_WORDS;
 use rules::answer::EVENT_WORDS;
+use rules::options::Mode;
+use rules::options::Options;
 
 // Room for the most events and errors that a case may have.
 const EVENT_ROOM: usize = 1024 * EVENT_WORDS;
@@ -22,11 +24,12 @@ const ERROR_ROOM: usize = 512 * ERROR_WORDS;
 
 // The entries are numbered as ENTRIES of oracle/src/walk.rs has them.
 fn parse(entry: u32, s: &[u8], base: u32, events: &mut [u32], errors: &mut [u32]) -> Answer {
+    let options = Options { mode: Mode::Crate };
     match entry {
-        0 => parse_document(s, base, events, errors),
-        1 => parse_key(s, base, events, errors),
-        2 => parse_simple_key(s, base, events, errors),
-        _ => parse_value(s, base, events, errors),
+        0 => parse_document(s, base, options, events, errors),
+        1 => parse_key(s, base, options, events, errors),
+        2 => parse_simple_key(s, base, options, events, errors),
+        _ => parse_value(s, base, options, events, errors),
     }
 }
 

@@ -17,7 +17,7 @@ use Rattle.token.specs.CursorLaws.{all-length}
 use Rattle.rules.specs.Limits.{maxDepth}
 use Rattle.rules.specs.declared.answer.Answer.{Answer}
 use Rattle.rules.specs.Entries.{documentEntry}
-use Rattle.rules.specs.Answer.{eventSize, Outcome, outcomeBy, outcome}
+use Rattle.rules.specs.Answer.{asCrate, eventSize, Outcome, outcomeBy, outcome}
 use Rattle.fitting.specs.Quiet.{QuietRun, NoMultiLineKey}
 use Rattle.fitting.specs.Grammar.{FitsWithin}
 use Rattle.fitting.specs.Premises.{Regular, Ready, documentRun}
@@ -43,34 +43,34 @@ Clean o = QuietRun o × NoMultiLineKey o
 -- what the theorems about the rules say of the run
 abbrev pub FitsThenQuiet : List ℕ → ℕ → List ℕ → Type 0
 FitsThenQuiet s base events =
-    checked s base ≡ Checked.Passed → Regular (allTokens s base) → length (allTokens s base) ≤ length events / eventSize → FitsWithin maxDepth (allTokens s base) → Clean (documentRun s base events [])
+    checked s base ≡ Checked.Passed → Regular (allTokens s base) → length (allTokens s base) ≤ length events / eventSize → FitsWithin maxDepth (allTokens s base) → Clean (documentRun asCrate s base events [])
 
 pub record Cited (s : List ℕ) (base : ℕ) (events : List ℕ) : Type 0 where
-  pub within : Ready s base events [] → Clean (documentRun s base events []) ↔ FitsWithin maxDepth (allTokens s base)
+  pub within : Ready asCrate s base events [] → Clean (documentRun asCrate s base events []) ↔ FitsWithin maxDepth (allTokens s base)
   pub quiet : FitsThenQuiet s base events
 
 -- a quiet run has passed the check
-passed-by : (c : Checked) (s : List ℕ) (base : ℕ) (events : List ℕ) → checked s base ≡ c → QuietRun (outcomeBy c documentEntry s base events []) → checked s base ≡ Checked.Passed
+passed-by : (c : Checked) (s : List ℕ) (base : ℕ) (events : List ℕ) → checked s base ≡ c → QuietRun (outcomeBy c asCrate documentEntry s base events []) → checked s base ≡ Checked.Passed
 passed-by Checked.Passed s base events h q = h
 passed-by (Checked.Refused r i) s base events h q = absurd (refused-number s base r i h (q .accepted))
 
-quiet-passed : (s : List ℕ) (base : ℕ) (events : List ℕ) → QuietRun (documentRun s base events []) → checked s base ≡ Checked.Passed
+quiet-passed : (s : List ℕ) (base : ℕ) (events : List ℕ) → QuietRun (documentRun asCrate s base events []) → checked s base ≡ Checked.Passed
 unfolding outcome
 quiet-passed s base events q = passed-by (checked s base) s base events refl q
 
 -- the run is quiet without a multi-line key exactly when the list is sound, if it is regular and there is room
-quiet-sound : (s : List ℕ) (base : ℕ) (events : List ℕ) → Cited s base events → Regular (allTokens s base) → Clean (documentRun s base events []) → Sound s base
+quiet-sound : (s : List ℕ) (base : ℕ) (events : List ℕ) → Cited s base events → Regular (allTokens s base) → Clean (documentRun asCrate s base events []) → Sound s base
 quiet-sound s base events t g q =
     let p = quiet-passed s base events (q .0) in
     record { passed = p; regular = g; fitting = t .within (record { passed = p; regular = g; room = λ e. omega (arith, e, q .0 .accepted) }) .0 q }
 
-sound-quiet : (s : List ℕ) (base : ℕ) (events : List ℕ) → FitsThenQuiet s base events → Sound s base → Roomy s events → Clean (documentRun s base events [])
+sound-quiet : (s : List ℕ) (base : ℕ) (events : List ℕ) → FitsThenQuiet s base events → Sound s base → Roomy s events → Clean (documentRun asCrate s base events [])
 sound-quiet s base events t o h = t (o .passed) (o .regular) (omega (arith, h, all-length s base)) (o .fitting)
 
 -- from here on `answer` is the run's, and `after` and `errors` the buffers behind it
-module _ (s : List ℕ) (base : ℕ) (events after errors : List ℕ) (answer : Answer) (is : Answers documentEntry s base events [] after errors answer) (cited : Cited s base events) where
+module _ (s : List ℕ) (base : ℕ) (events after errors : List ℕ) (answer : Answer) (is : Answers asCrate documentEntry s base events [] after errors answer) (cited : Cited s base events) where
   abbrev run : Outcome
-  run = documentRun s base events []
+  run = documentRun asCrate s base events []
 
   ran : answer ≡ run .answer
   ran = ap (λ (o : Outcome). o .answer) is
@@ -124,7 +124,7 @@ judged-by answer false false u z = (refl, refl)
 
 pub judges-decided : (s : List ℕ) (base : ℕ) (events after : List ℕ) (v : Verdict) → FitsThenQuiet s base events → Judges s base events after v → Judged s base v
 judges-decided s base events after v t j =
-    let run = documentRun s base events [] .answer in
+    let run = documentRun asCrate s base events [] .answer in
     let short = ltb (length events / eventSize) (count s) in
     record {
       decides = λ z. let room = ltb-false _ _ (judged-by run (unjudged (run .refusal)) short refl (sym (j .refusal) ∙ z) .1) in (λ y. j .yes .0 y .0, λ o. j .yes .1 (o, room));

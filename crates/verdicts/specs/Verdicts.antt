@@ -13,7 +13,7 @@ use Rattle.token.specs.Tokens.{allTokens}
 use Rattle.token.specs.Check.{checked}
 use Rattle.rules.specs.Limits.{maxDepth}
 use Rattle.rules.specs.declared.answer.Answer.{Answer}
-use Rattle.rules.specs.Answer.{eventSize}
+use Rattle.rules.specs.Answer.{asCrate, eventSize}
 use Rattle.fitting.specs.Grammar.{FitsWithin}
 use Rattle.fitting.specs.Premises.{Regular, documentRun}
 use Rattle.verdicts.specs.declared.verdict.Verdict.{Verdict}
@@ -50,9 +50,9 @@ placeOf answer = cond (unjudged (answer .refusal)) (answer .place) 0
 -- buffer is left as the run leaves it
 pub record Judges (s : List ℕ) (base : ℕ) (events after : List ℕ) (v : Verdict) : Type 0 where
   pub yes : (v .fits ≡ true) ↔ (Sound s base × Roomy s events)
-  pub refusal : v .refusal ≡ refusalOf (documentRun s base events [] .answer) (ltb (length events / eventSize) (count s))
-  pub place : v .place ≡ placeOf (documentRun s base events [] .answer)
-  pub left : after ≡ documentRun s base events [] .events
+  pub refusal : v .refusal ≡ refusalOf (documentRun asCrate s base events [] .answer) (ltb (length events / eventSize) (count s))
+  pub place : v .place ≡ placeOf (documentRun asCrate s base events [] .answer)
+  pub left : after ≡ documentRun asCrate s base events [] .events
 
 -- an answer of `fits` with the event buffer behind it
 pub record Judgement : Type 0 where

@@ -7,6 +7,8 @@ use fitting::theorems::fits_then_quiet;
 use fitting::theorems::quiet_exactly_when_fits_within;
 use quiet::keys::is_quiet_without_multi_line_key;
 use rules::answer::EVENT_WORDS;
+use rules::options::Mode;
+use rules::options::Options;
 ghost use mathlib.Core.Path.{_≡_};
 ghost use Rattle.token.specs.declared.checked.Checked.{Checked};
 ghost use Rattle.token.specs.Tokens.{allTokens};
@@ -21,9 +23,10 @@ pub fn judge(records: &[u8], base: u32, events: &mut [u32]) -> Verdict
     ensures { λ v. ⌜ Judges (now (records .entry)) base (now (events .entry)) (now (events .exit)) v ⌝ }
 {
     let mut errors = [0u32; 0];
+    let options = Options { mode: Mode::Crate };
     quiet_exactly_when_fits_within(records, base, events, &errors);
     fits_then_quiet(records, base, events, &errors);
-    let answer = read_document(records, base, events, &mut errors);
+    let answer = read_document(records, base, options, events, &mut errors);
     let refusal = answer.refusal;
     if is_unjudged(refusal) {
         let place = answer.place;

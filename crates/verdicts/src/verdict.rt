@@ -5,6 +5,8 @@ use fitting::theorems::quiet_exactly_when_fits_within;
 use quiet::keys::is_quiet_without_multi_line_key;
 use quiet::regular::is_regular;
 use rules::answer::EVENT_WORDS;
+use rules::options::Mode;
+use rules::options::Options;
 ghost use mathlib.Core.Path.{_≡_};
 ghost use Rattle.verdicts.specs.Verdicts.{unjudged, Judges};
 
@@ -41,9 +43,10 @@ pub fn fits(records: &[u8], base: u32, events: &mut [u32]) -> Verdict
     ensures { λ v. ⌜ Judges (now (records .entry)) base (now (events .entry)) (now (events .exit)) v ⌝ }
 {
     let mut errors = [0u32; 0];
+    let options = Options { mode: Mode::Crate };
     quiet_exactly_when_fits_within(records, base, events, &errors);
     fits_then_quiet(records, base, events, &errors);
-    let answer = parse_document(records, base, events, &mut errors);
+    let answer = parse_document(records, base, options, events, &mut errors);
     let refusal = answer.refusal;
     if is_unjudged(refusal) {
         let place = answer.place;

@@ -17,7 +17,7 @@ parse-document-requires : tie.Need-parse-document-requires
 parse-document-requires c κs = search needs
 
 print-refusal-requires : tie.Need-print-refusal-requires
-print-refusal-requires c κs = never-seven _ _ _ _ _ _ _ ((c .before .before .before .parse-document) .ensures) (c .before .before .before .before .before .before .before .pre) refl
+print-refusal-requires c κs = never-seven _ _ _ _ _ _ _ _ ((c .before .before .before .parse-document) .ensures) (c .before .before .before .before .before .before .before .pre) refl
 
 returns : tie.Need-returns
 returns c = search needs
@@ -29,13 +29,13 @@ slice-aggregate-print-events : tie.Need-slice-aggregate-print-events
 slice-aggregate-print-events c = search needs
 
 print-events-requires : tie.Need-print-events-requires
-print-events-requires c κs = ((within _ _ _ _ _ _ _ _ ((c .before .before .before .before .before .parse-document) .ensures) ((c .before .before .before .before .before .parse-document) .kept .1 .1 .0) ((c .before .before .before .before .before .parse-document) .kept .1 .1 .1 .0) (omega (arith, (c .before .before .if1) .left))) .0, (within _ _ _ _ _ _ _ _ ((c .before .before .before .before .before .parse-document) .ensures) ((c .before .before .before .before .before .parse-document) .kept .1 .1 .0) ((c .before .before .before .before .before .parse-document) .kept .1 .1 .1 .0) (omega (arith, (c .before .before .if1) .left))) .2)
+print-events-requires c κs = ((within _ _ _ _ _ _ _ _ _ ((c .before .before .before .before .before .parse-document) .ensures) ((c .before .before .before .before .before .parse-document) .kept .1 .1 .1 .0) ((c .before .before .before .before .before .parse-document) .kept .1 .1 .1 .1 .0) (omega (arith, (c .before .before .if1) .left))) .0, (within _ _ _ _ _ _ _ _ _ ((c .before .before .before .before .before .parse-document) .ensures) ((c .before .before .before .before .before .parse-document) .kept .1 .1 .1 .0) ((c .before .before .before .before .before .parse-document) .kept .1 .1 .1 .1 .0) (omega (arith, (c .before .before .if1) .left))) .2)
 
 slice-aggregate-print-errors : tie.Need-slice-aggregate-print-errors
 slice-aggregate-print-errors c = search needs
 
 print-errors-requires : tie.Need-print-errors-requires
-print-errors-requires c κs = (within _ _ _ _ _ _ _ _ ((c .before .before .before .before .before .before .before .parse-document) .ensures) ((c .before .before .before .before .before .before .before .parse-document) .kept .1 .1 .0) ((c .before .before .before .before .before .before .before .parse-document) .kept .1 .1 .1 .0) (omega (arith, (c .before .before .before .before .if1) .left))) .1
+print-errors-requires c κs = (within _ _ _ _ _ _ _ _ _ ((c .before .before .before .before .before .before .before .parse-document) .ensures) ((c .before .before .before .before .before .before .before .parse-document) .kept .1 .1 .1 .0) ((c .before .before .before .before .before .before .before .parse-document) .kept .1 .1 .1 .1 .0) (omega (arith, (c .before .before .before .before .if1) .left))) .1
 
 returns-2 : tie.Need-returns-2
 returns-2 c = search needs

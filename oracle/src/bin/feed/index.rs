@@ -244,7 +244,7 @@ fn arbitrary(prng: &mut Prng) -> Lists {
     let many = prng.below(41);
     Lists {
         events: events[..many].to_vec(),
-        errors: Vec::new(),
+        ..Lists::default()
     }
 }
 

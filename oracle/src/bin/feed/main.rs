@@ -16,8 +16,11 @@
 //!     feed --cases < cases       cases, a line each: those of batch mode, and
 //!                                `text RECORDBYTES EVENTWORDS ERRORWORDS x:HEX`,
 //!                                `fits BASE EVENTWORDS x:HEX`, `header AT x:HEX` and
-//!                                `index REFUSAL PLACE EVENTS ERRORS INDEXBYTES x:HEX`
+//!                                `index REFUSAL PLACE EVENTS ERRORS INDEXBYTES x:HEX`;
+//!                                `mode:NUMBER` may stand before a list and a text
 //!
+//! Lists and texts are asked in crate mode or in brace mode, those with message 19 in both, and
+//! now and then in an unknown mode, which is refused.
 //! `--part K/N` behind these takes only the K-th of N parts of the texts. `--wrong WHAT` at
 //! the end asks for something else than the oracle gives, to show that the comparison
 //! can fail; src/wrong.rs says what.
@@ -70,7 +73,13 @@ fn run(words: &[&str]) -> Result<(), String> {
         [before @ .., "--part", part] => (before, texts::Part::of(part)?),
         _ => (words, texts::Part::WHOLE),
     };
-    let mut feed = Feed::new(std::io::stdout(), wrong);
+    let feed = Feed::new(std::io::stdout(), wrong);
+    // cases from standard input have their modes, all others go through them
+    let mut feed = if words == ["--cases"] {
+        feed
+    } else {
+        feed.through_modes()
+    };
     match words {
         ["--all", longest] => lists::all(&mut feed, number(longest)?)?,
         ["--random", count, seed] => lists::random(&mut feed, number(count)?, number(seed)?)?,
@@ -101,7 +110,8 @@ fn wrong(what: &str) -> Result<Wrong, String> {
 
 /// Adds the case in a line.
 fn put_line(feed: &mut Feed, line: &str) -> Result<(), String> {
-    let words: Vec<&str> = line.split_ascii_whitespace().collect();
+    let (mode, behind) = batch::with_mode(line)?;
+    let words: Vec<&str> = behind.split_ascii_whitespace().collect();
     match words.as_slice() {
         ["text", records, events, errors, rest @ ..] => {
             let room = Rooms {
@@ -109,7 +119,7 @@ fn put_line(feed: &mut Feed, line: &str) -> Result<(), String> {
                 event_words: number(events)?,
                 error_words: number(errors)?,
             };
-            feed.put_text(&batch::bytes(rest.iter().copied())?, |_| [room])
+            feed.put_text(mode, &batch::bytes(rest.iter().copied())?, |_| [room])
         }
         ["fits", base, events, rest @ ..] => {
             let bytes = batch::bytes(rest.iter().copied())?;

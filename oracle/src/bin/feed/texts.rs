@@ -4,6 +4,7 @@
 use std::path::PathBuf;
 
 use oracle::batch::number;
+use oracle::modes::CRATE;
 use oracle::prng::Prng;
 use oracle::records;
 use oracle::snippets;
@@ -18,7 +19,7 @@ use crate::NOTED;
 
 /// What the short texts are made of: what all of them begin with, the symbols that
 /// follow, and how many of them. The first set reaches each branch of lexer/mod.rs.
-const ALPHABETS: [(&str, &[&str], u32); 9] = [
+const ALPHABETS: [(&str, &[&str], u32); 10] = [
     ("", &["=", " ", "#", "\r", "\n", "'", "\"", "\\", "a"], 6),
     ("", &ALL, 4),
     ("\u{feff}", &ALL, 3),
@@ -27,6 +28,8 @@ const ALPHABETS: [(&str, &[&str], u32); 9] = [
     ("a=\"\"\"", &["\"", "\\", "a"], 7),
     ("x={", &["a", "=", ",", "[", "]", "{", "}", "\n", "'"], 4),
     ("x=[", &["a", "=", ",", "[", "]", "{", "}", "\n", "'"], 4),
+    // a comma before the brace, which crate mode finds and brace mode does not
+    (",\nx={", &["a", "=", ",", "[", "]", "{", "}", "\n"], 5),
     ("", &ODD, 3),
 ];
 /// One symbol or more of each token, the rest of an Atom, and a character of two bytes.
@@ -113,7 +116,7 @@ pub fn all(feed: &mut Feed, more: u32, folder: &str, part: Part) -> Result<(), S
     for (turn, file) in files(folder)?.into_iter().enumerate() {
         if part.has(turn as u64) {
             let mut prng = Prng::new(turn as u64);
-            feed.put_text(&file, |needs| {
+            feed.put_text(CRATE, &file, |needs| {
                 [5, 0, 1, 2, 3, 4].map(|which| some(&mut prng, needs, which))
             })?;
         }
@@ -141,11 +144,13 @@ fn short_texts(
         let places = (0..length).map(|at| (turn / many.pow(at) % many) as usize);
         let text = head.to_string() + &places.map(|place| symbols[place]).collect::<String>();
         if length <= 2 {
-            feed.put_text(text.as_bytes(), |needs| all_rooms(&needs))?;
+            feed.put_text(CRATE, text.as_bytes(), |needs| all_rooms(&needs))?;
         } else {
             let mut prng = Prng::new(turn ^ u64::from(length) << 32);
             let which = prng.below(8);
-            feed.put_text(text.as_bytes(), |needs| [some(&mut prng, needs, which)])?;
+            feed.put_text(CRATE, text.as_bytes(), |needs| {
+                [some(&mut prng, needs, which)]
+            })?;
         }
     }
     Ok(())
@@ -167,7 +172,7 @@ fn utf8(feed: &mut Feed, part: Part) -> Result<(), String> {
                 text.push(lead);
                 text.extend((0..length).map(|at| FOLLOWS[follow / many.pow(at) % many]));
                 text.extend_from_slice(behind.as_bytes());
-                feed.put_text(&text, |needs| [ample(&needs)])?;
+                feed.put_text(CRATE, &text, |needs| [ample(&needs)])?;
             }
         }
     }
@@ -190,7 +195,7 @@ pub fn random(
             let mut prng = Prng::new(seed ^ turn.wrapping_mul(0xd6e8_feb8_6659_fd93));
             let text = snippets::text(&mut prng, &files);
             let (every, which) = (prng.one_in(100), prng.below(10));
-            feed.put_text(&text, |needs| {
+            feed.put_text(CRATE, &text, |needs| {
                 if every && needs.record_bytes <= 6 * FEW_RECORDS {
                     all_rooms(&needs)
                 } else {
@@ -242,7 +247,7 @@ fn at_the_limits(feed: &mut Feed) -> Result<(), String> {
     ] {
         let mut text = vec![b'#'; bytes - 1];
         text.push(last);
-        feed.put_text(&text, |needs| [ample(&needs)])?;
+        feed.put_text(CRATE, &text, |needs| [ample(&needs)])?;
     }
     let most = records::MAX_RECORDS;
     for many in [most - 2, most - 1, most] {
@@ -250,7 +255,7 @@ fn at_the_limits(feed: &mut Feed) -> Result<(), String> {
             let mut text = symbol.repeat(many);
             text.truncate(many);
             let rooms = |needs| [ample(&needs), less(ample(&needs), 0, 12), less(needs, 1, 0)];
-            feed.put_text(text.as_bytes(), rooms)?;
+            feed.put_text(CRATE, text.as_bytes(), rooms)?;
         }
     }
     for levels in [63, 64, 65] {
@@ -262,7 +267,7 @@ fn at_the_limits(feed: &mut Feed) -> Result<(), String> {
                 close.repeat(levels - 1)
             );
             for text in [text, both] {
-                feed.put_text(text.as_bytes(), |needs| {
+                feed.put_text(CRATE, text.as_bytes(), |needs| {
                     let no_event = less(ample(&needs), 0, usize::MAX);
                     [ample(&needs), needs, no_event, less(needs, 6, 0)]
                 })?;

@@ -44,7 +44,7 @@ unfolding from-lexed from-text from-judged held
 returns c =
     record {
       lexed = λ x y p q. λ i. from-lexed ((p ∙ sym q) i);
-      parsed = λ x y p q. λ i. from-text ((p ∙ sym q) i);
+      parsed = λ mode x y p q. λ i. from-text ((p ∙ sym q) i);
       judged = λ x y p q. λ i. from-judged ((c .text-verdicts-are-determined) .ensures (held x) (held y) p q i);
     }
 

@@ -24,7 +24,7 @@ known x y e = λ i. from-held (e i)
 
 returns : tie.Need-returns
 unfolding held
-returns c = λ entry s base events errors x y p q. known x y (p ∙ sym q)
+returns c = λ mode entry s base events errors x y p q. known x y (p ∙ sym q)
 
 pub exported-answers-are-determined-spec : {M : Type 1} → statement M
 exported-answers-are-determined-spec = tie.close (tie.spec returns)

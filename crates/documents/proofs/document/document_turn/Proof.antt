@@ -37,7 +37,7 @@ returns c =
       g = done (tokensAt ((c .before .before .before .before .before .before .before .args) .s .now) ((c .before .before .before .before .before .before .before .args) .c));
       walk = nested-goes (goes-by _ _ _ _ _ _ (λ base q. run-done _ _ _ _ _ _) (c .before .before .before .before .before .before .before .pre) (omega arith) refl);
       goes-on = λ q. absurd (false≢true (sym q));
-      ends = λ q loop. rule-end _ _ (documentTurn ((c .before .before .before .before .before .before .before .args) .levels) loop tt) done (told-done _ _ _ ((c .before .before .before .next) .ensures) ((c .before .enum-told) .given .1)) refl;
+      ends = λ q loop. rule-end _ _ (documentTurn ((c .before .before .before .before .before .before .before .args) .settings .levels) loop tt) done (told-done _ _ _ ((c .before .before .before .next) .ensures) ((c .before .enum-told) .given .1)) refl;
       further = λ q. absurd (false≢true (sym q));
     })
 
@@ -60,7 +60,7 @@ same-length-2 : tie.Need-same-length-2
 same-length-2 c = search needs
 
 returns-2 : tie.Need-returns-2
-returns-2 c = stepped-as ((c .going-on) .ensures) (record { g = onTable ((c .before .before .before .before .before .before .before .before .before .before .before .before .step) .given .0 .0 .start) ((c .before .before .before .before .before .before .before .before .before .before .before .before .step) .given .0 .0 .end) (tokensAt ((c .before .before .before .before .before .before .before .before .before .before .before .before .before .before .before .before .before .before .args) .s .now) ((c .before .before .before .before .before .before .before .before .before .before .before .before .step) .given .0 .1 .0)); walk = nested-past (told _ _ _ _ _ ((c .before .before .before .before .before .before .before .before .before .before .before .before .before .before .next) .ensures) ((c .before .before .before .before .before .before .before .before .before .before .before .before .step) .given .1)) (nested-goes ((c .before .before .before .before .before .on-table) .ensures)); goes-on = λ q. (λ loop. document-at _ _ _ _ (told _ _ _ _ _ ((c .before .before .before .before .before .before .before .before .before .before .before .before .before .before .next) .ensures) ((c .before .before .before .before .before .before .before .before .before .before .before .before .step) .given .1)) _ _ ((c .before .before .before .before .before .before .before .before .before .before .in-document) .ensures) ((c .before .before .before .before .before .before .before .before .enum-told2) .given .1) ((c .before .before .before .before .before .before .before .before .before .before .before .before .before .before .before .before .before .before .args) .levels) loop); ends = λ q. absurd (false≢true q); further = λ q. omega (arith, (told _ _ _ _ _ ((c .before .before .before .before .before .before .before .before .before .before .before .before .before .before .next) .ensures) ((c .before .before .before .before .before .before .before .before .before .before .before .before .step) .given .1)) .on, (c .before .before .before .before .before .on-table) .ensures .on) })
+returns-2 c = stepped-as ((c .going-on) .ensures) (record { g = onTable ((c .before .before .before .before .before .before .before .before .before .before .before .before .step) .given .0 .0 .start) ((c .before .before .before .before .before .before .before .before .before .before .before .before .step) .given .0 .0 .end) (tokensAt ((c .before .before .before .before .before .before .before .before .before .before .before .before .before .before .before .before .before .before .args) .s .now) ((c .before .before .before .before .before .before .before .before .before .before .before .before .step) .given .0 .1 .0)); walk = nested-past (told _ _ _ _ _ ((c .before .before .before .before .before .before .before .before .before .before .before .before .before .before .next) .ensures) ((c .before .before .before .before .before .before .before .before .before .before .before .before .step) .given .1)) (nested-goes ((c .before .before .before .before .before .on-table) .ensures)); goes-on = λ q. (λ loop. document-at _ _ _ _ (told _ _ _ _ _ ((c .before .before .before .before .before .before .before .before .before .before .before .before .before .before .next) .ensures) ((c .before .before .before .before .before .before .before .before .before .before .before .before .step) .given .1)) _ _ ((c .before .before .before .before .before .before .before .before .before .before .in-document) .ensures) ((c .before .before .before .before .before .before .before .before .enum-told2) .given .1) ((c .before .before .before .before .before .before .before .before .before .before .before .before .before .before .before .before .before .before .args) .settings .levels) loop); ends = λ q. absurd (false≢true q); further = λ q. omega (arith, (told _ _ _ _ _ ((c .before .before .before .before .before .before .before .before .before .before .before .before .before .before .next) .ensures) ((c .before .before .before .before .before .before .before .before .before .before .before .before .step) .given .1)) .on, (c .before .before .before .before .before .on-table) .ensures .on) })
 
 enum-told-3 : tie.Need-enum-told-3
 enum-told-3 c = search needs
@@ -78,7 +78,7 @@ same-length-4 : tie.Need-same-length-4
 same-length-4 c = search needs
 
 returns-3 : tie.Need-returns-3
-returns-3 c = stepped-as ((c .going-on2) .ensures) (record { g = onMissingStdTable ((c .before .before .before .before .before .before .before .before .before .before .before .before .step) .given .0 .0 .start) ((c .before .before .before .before .before .before .before .before .before .before .before .before .step) .given .0 .0 .end) (tokensAt ((c .before .before .before .before .before .before .before .before .before .before .before .before .before .before .before .before .before .before .args) .s .now) ((c .before .before .before .before .before .before .before .before .before .before .before .before .step) .given .0 .1 .0)); walk = nested-past (told _ _ _ _ _ ((c .before .before .before .before .before .before .before .before .before .before .before .before .before .before .next) .ensures) ((c .before .before .before .before .before .before .before .before .before .before .before .before .step) .given .1)) (nested-goes ((c .before .before .before .before .before .on-missing-std-table) .ensures)); goes-on = λ q. (λ loop. document-at _ _ _ _ (told _ _ _ _ _ ((c .before .before .before .before .before .before .before .before .before .before .before .before .before .before .next) .ensures) ((c .before .before .before .before .before .before .before .before .before .before .before .before .step) .given .1)) _ _ ((c .before .before .before .before .before .before .before .before .before .before .in-document) .ensures) ((c .before .before .before .before .before .before .before .before .enum-told3) .given .1) ((c .before .before .before .before .before .before .before .before .before .before .before .before .before .before .before .before .before .before .args) .levels) loop); ends = λ q. absurd (false≢true q); further = λ q. omega (arith, (told _ _ _ _ _ ((c .before .before .before .before .before .before .before .before .before .before .before .before .before .before .next) .ensures) ((c .before .before .before .before .before .before .before .before .before .before .before .before .step) .given .1)) .on, (c .before .before .before .before .before .on-missing-std-table) .ensures .on) })
+returns-3 c = stepped-as ((c .going-on2) .ensures) (record { g = onMissingStdTable ((c .before .before .before .before .before .before .before .before .before .before .before .before .step) .given .0 .0 .start) ((c .before .before .before .before .before .before .before .before .before .before .before .before .step) .given .0 .0 .end) (tokensAt ((c .before .before .before .before .before .before .before .before .before .before .before .before .before .before .before .before .before .before .args) .s .now) ((c .before .before .before .before .before .before .before .before .before .before .before .before .step) .given .0 .1 .0)); walk = nested-past (told _ _ _ _ _ ((c .before .before .before .before .before .before .before .before .before .before .before .before .before .before .next) .ensures) ((c .before .before .before .before .before .before .before .before .before .before .before .before .step) .given .1)) (nested-goes ((c .before .before .before .before .before .on-missing-std-table) .ensures)); goes-on = λ q. (λ loop. document-at _ _ _ _ (told _ _ _ _ _ ((c .before .before .before .before .before .before .before .before .before .before .before .before .before .before .next) .ensures) ((c .before .before .before .before .before .before .before .before .before .before .before .before .step) .given .1)) _ _ ((c .before .before .before .before .before .before .before .before .before .before .in-document) .ensures) ((c .before .before .before .before .before .before .before .before .enum-told3) .given .1) ((c .before .before .before .before .before .before .before .before .before .before .before .before .before .before .before .before .before .before .args) .settings .levels) loop); ends = λ q. absurd (false≢true q); further = λ q. omega (arith, (told _ _ _ _ _ ((c .before .before .before .before .before .before .before .before .before .before .before .before .before .before .next) .ensures) ((c .before .before .before .before .before .before .before .before .before .before .before .before .step) .given .1)) .on, (c .before .before .before .before .before .on-missing-std-table) .ensures .on) })
 
 enum-known-x : tie.Need-enum-known-x
 enum-known-x c = search needs
@@ -117,7 +117,7 @@ same-length-6 : tie.Need-same-length-6
 same-length-6 c = search needs
 
 returns-4 : tie.Need-returns-4
-returns-4 c = stepped-as ((c .going-on3) .ensures) (record { g = onMissingExpressionKey ((c .before .before .before .before .before .before .before .before .before .before .before .before .step) .given .0 .0 .start) ((c .before .before .before .before .before .before .before .before .before .before .before .before .step) .given .0 .0 .end) (tokensAt ((c .before .before .before .before .before .before .before .before .before .before .before .before .before .before .before .before .before .before .args) .s .now) ((c .before .before .before .before .before .before .before .before .before .before .before .before .step) .given .0 .1 .0)); walk = nested-past (told _ _ _ _ _ ((c .before .before .before .before .before .before .before .before .before .before .before .before .before .before .next) .ensures) ((c .before .before .before .before .before .before .before .before .before .before .before .before .step) .given .1)) (nested-goes ((c .before .before .before .before .before .on-missing-expression-key) .ensures)); goes-on = λ q. (λ loop. document-at _ _ _ _ (told _ _ _ _ _ ((c .before .before .before .before .before .before .before .before .before .before .before .before .before .before .next) .ensures) ((c .before .before .before .before .before .before .before .before .before .before .before .before .step) .given .1)) _ _ ((c .before .before .before .before .before .before .before .before .before .before .in-document) .ensures) ((c .before .before .before .before .before .before .before .before .enum-told6) .given .1) ((c .before .before .before .before .before .before .before .before .before .before .before .before .before .before .before .before .before .before .args) .levels) loop); ends = λ q. absurd (false≢true q); further = λ q. omega (arith, (told _ _ _ _ _ ((c .before .before .before .before .before .before .before .before .before .before .before .before .before .before .next) .ensures) ((c .before .before .before .before .before .before .before .before .before .before .before .before .step) .given .1)) .on, (c .before .before .before .before .before .on-missing-expression-key) .ensures .on) })
+returns-4 c = stepped-as ((c .going-on3) .ensures) (record { g = onMissingExpressionKey ((c .before .before .before .before .before .before .before .before .before .before .before .before .step) .given .0 .0 .start) ((c .before .before .before .before .before .before .before .before .before .before .before .before .step) .given .0 .0 .end) (tokensAt ((c .before .before .before .before .before .before .before .before .before .before .before .before .before .before .before .before .before .before .args) .s .now) ((c .before .before .before .before .before .before .before .before .before .before .before .before .step) .given .0 .1 .0)); walk = nested-past (told _ _ _ _ _ ((c .before .before .before .before .before .before .before .before .before .before .before .before .before .before .next) .ensures) ((c .before .before .before .before .before .before .before .before .before .before .before .before .step) .given .1)) (nested-goes ((c .before .before .before .before .before .on-missing-expression-key) .ensures)); goes-on = λ q. (λ loop. document-at _ _ _ _ (told _ _ _ _ _ ((c .before .before .before .before .before .before .before .before .before .before .before .before .before .before .next) .ensures) ((c .before .before .before .before .before .before .before .before .before .before .before .before .step) .given .1)) _ _ ((c .before .before .before .before .before .before .before .before .before .before .in-document) .ensures) ((c .before .before .before .before .before .before .before .before .enum-told6) .given .1) ((c .before .before .before .before .before .before .before .before .before .before .before .before .before .before .before .before .before .before .args) .settings .levels) loop); ends = λ q. absurd (false≢true q); further = λ q. omega (arith, (told _ _ _ _ _ ((c .before .before .before .before .before .before .before .before .before .before .before .before .before .before .next) .ensures) ((c .before .before .before .before .before .before .before .before .before .before .before .before .step) .given .1)) .on, (c .before .before .before .before .before .on-missing-expression-key) .ensures .on) })
 
 enum-told-7 : tie.Need-enum-told-7
 enum-told-7 c = search needs
@@ -136,7 +136,7 @@ returns-5 c =
     stepped-as ((c .going-on4) .ensures) (record {
       g = receiver.whitespace ((c .before .before .before .before .before .before .before .before .before .step) .given .0 .0 .start) ((c .before .before .before .before .before .before .before .before .before .step) .given .0 .0 .end) ▹ done (tokensAt ((c .before .before .before .before .before .before .before .before .before .before .before .before .before .before .before .args) .s .now) ((c .before .before .before .before .before .before .before .before .before .step) .given .0 .1 .0));
       walk = nested-goes (goes-by _ _ _ _ _ _ (λ base q. ((first-item _ _ _ _ _ (c .before .before .before .emit .ensures _ _))) ∙ run-done _ _ _ _ _ _) ((told _ _ _ _ _ ((c .before .before .before .before .before .before .before .before .before .before .before .next) .ensures) ((c .before .before .before .before .before .before .before .before .before .step) .given .1)) .good) (omega (arith, (told _ _ _ _ _ ((c .before .before .before .before .before .before .before .before .before .before .before .next) .ensures) ((c .before .before .before .before .before .before .before .before .before .step) .given .1)) .on)) ((told _ _ _ _ _ ((c .before .before .before .before .before .before .before .before .before .before .before .next) .ensures) ((c .before .before .before .before .before .before .before .before .before .step) .given .1)) .base));
-      goes-on = λ q. (λ loop. document-at _ _ _ _ (told _ _ _ _ _ ((c .before .before .before .before .before .before .before .before .before .before .before .next) .ensures) ((c .before .before .before .before .before .before .before .before .before .step) .given .1)) _ _ ((c .before .before .before .before .before .before .before .in-document) .ensures) ((c .before .before .before .before .before .enum-told7) .given .1) ((c .before .before .before .before .before .before .before .before .before .before .before .before .before .before .before .args) .levels) loop);
+      goes-on = λ q. (λ loop. document-at _ _ _ _ (told _ _ _ _ _ ((c .before .before .before .before .before .before .before .before .before .before .before .next) .ensures) ((c .before .before .before .before .before .before .before .before .before .step) .given .1)) _ _ ((c .before .before .before .before .before .before .before .in-document) .ensures) ((c .before .before .before .before .before .enum-told7) .given .1) ((c .before .before .before .before .before .before .before .before .before .before .before .before .before .before .before .args) .settings .levels) loop);
       ends = λ q. absurd (false≢true q);
       further = λ q. omega (arith, (told _ _ _ _ _ ((c .before .before .before .before .before .before .before .before .before .before .before .next) .ensures) ((c .before .before .before .before .before .before .before .before .before .step) .given .1)) .on);
     })
@@ -158,7 +158,7 @@ returns-6 c =
     stepped-as ((c .going-on5) .ensures) (record {
       g = receiver.newline ((c .before .before .before .before .before .before .before .before .before .step) .given .0 .0 .start) ((c .before .before .before .before .before .before .before .before .before .step) .given .0 .0 .end) ▹ done (tokensAt ((c .before .before .before .before .before .before .before .before .before .before .before .before .before .before .before .args) .s .now) ((c .before .before .before .before .before .before .before .before .before .step) .given .0 .1 .0));
       walk = nested-goes (goes-by _ _ _ _ _ _ (λ base q. ((first-item _ _ _ _ _ (c .before .before .before .emit2 .ensures _ _))) ∙ run-done _ _ _ _ _ _) ((told _ _ _ _ _ ((c .before .before .before .before .before .before .before .before .before .before .before .next) .ensures) ((c .before .before .before .before .before .before .before .before .before .step) .given .1)) .good) (omega (arith, (told _ _ _ _ _ ((c .before .before .before .before .before .before .before .before .before .before .before .next) .ensures) ((c .before .before .before .before .before .before .before .before .before .step) .given .1)) .on)) ((told _ _ _ _ _ ((c .before .before .before .before .before .before .before .before .before .before .before .next) .ensures) ((c .before .before .before .before .before .before .before .before .before .step) .given .1)) .base));
-      goes-on = λ q. (λ loop. document-at _ _ _ _ (told _ _ _ _ _ ((c .before .before .before .before .before .before .before .before .before .before .before .next) .ensures) ((c .before .before .before .before .before .before .before .before .before .step) .given .1)) _ _ ((c .before .before .before .before .before .before .before .in-document) .ensures) ((c .before .before .before .before .before .enum-told8) .given .1) ((c .before .before .before .before .before .before .before .before .before .before .before .before .before .before .before .args) .levels) loop);
+      goes-on = λ q. (λ loop. document-at _ _ _ _ (told _ _ _ _ _ ((c .before .before .before .before .before .before .before .before .before .before .before .next) .ensures) ((c .before .before .before .before .before .before .before .before .before .step) .given .1)) _ _ ((c .before .before .before .before .before .before .before .in-document) .ensures) ((c .before .before .before .before .before .enum-told8) .given .1) ((c .before .before .before .before .before .before .before .before .before .before .before .before .before .before .before .args) .settings .levels) loop);
       ends = λ q. absurd (false≢true q);
       further = λ q. omega (arith, (told _ _ _ _ _ ((c .before .before .before .before .before .before .before .before .before .before .before .next) .ensures) ((c .before .before .before .before .before .before .before .before .before .step) .given .1)) .on);
     })
@@ -179,7 +179,7 @@ same-length-10 : tie.Need-same-length-10
 same-length-10 c = search needs
 
 returns-7 : tie.Need-returns-7
-returns-7 c = stepped-as ((c .going-on6) .ensures) (record { g = onComment ((c .before .before .before .before .before .before .before .before .before .before .before .before .step) .given .0 .0 .start) ((c .before .before .before .before .before .before .before .before .before .before .before .before .step) .given .0 .0 .end) (tokensAt ((c .before .before .before .before .before .before .before .before .before .before .before .before .before .before .before .before .before .before .args) .s .now) ((c .before .before .before .before .before .before .before .before .before .before .before .before .step) .given .0 .1 .0)); walk = nested-past (told _ _ _ _ _ ((c .before .before .before .before .before .before .before .before .before .before .before .before .before .before .next) .ensures) ((c .before .before .before .before .before .before .before .before .before .before .before .before .step) .given .1)) (nested-goes ((c .before .before .before .before .before .on-comment) .ensures)); goes-on = λ q. (λ loop. document-at _ _ _ _ (told _ _ _ _ _ ((c .before .before .before .before .before .before .before .before .before .before .before .before .before .before .next) .ensures) ((c .before .before .before .before .before .before .before .before .before .before .before .before .step) .given .1)) _ _ ((c .before .before .before .before .before .before .before .before .before .before .in-document) .ensures) ((c .before .before .before .before .before .before .before .before .enum-told9) .given .1) ((c .before .before .before .before .before .before .before .before .before .before .before .before .before .before .before .before .before .before .args) .levels) loop); ends = λ q. absurd (false≢true q); further = λ q. omega (arith, (told _ _ _ _ _ ((c .before .before .before .before .before .before .before .before .before .before .before .before .before .before .next) .ensures) ((c .before .before .before .before .before .before .before .before .before .before .before .before .step) .given .1)) .on, (c .before .before .before .before .before .on-comment) .ensures .on) })
+returns-7 c = stepped-as ((c .going-on6) .ensures) (record { g = onComment ((c .before .before .before .before .before .before .before .before .before .before .before .before .step) .given .0 .0 .start) ((c .before .before .before .before .before .before .before .before .before .before .before .before .step) .given .0 .0 .end) (tokensAt ((c .before .before .before .before .before .before .before .before .before .before .before .before .before .before .before .before .before .before .args) .s .now) ((c .before .before .before .before .before .before .before .before .before .before .before .before .step) .given .0 .1 .0)); walk = nested-past (told _ _ _ _ _ ((c .before .before .before .before .before .before .before .before .before .before .before .before .before .before .next) .ensures) ((c .before .before .before .before .before .before .before .before .before .before .before .before .step) .given .1)) (nested-goes ((c .before .before .before .before .before .on-comment) .ensures)); goes-on = λ q. (λ loop. document-at _ _ _ _ (told _ _ _ _ _ ((c .before .before .before .before .before .before .before .before .before .before .before .before .before .before .next) .ensures) ((c .before .before .before .before .before .before .before .before .before .before .before .before .step) .given .1)) _ _ ((c .before .before .before .before .before .before .before .before .before .before .in-document) .ensures) ((c .before .before .before .before .before .before .before .before .enum-told9) .given .1) ((c .before .before .before .before .before .before .before .before .before .before .before .before .before .before .before .before .before .before .args) .settings .levels) loop); ends = λ q. absurd (false≢true q); further = λ q. omega (arith, (told _ _ _ _ _ ((c .before .before .before .before .before .before .before .before .before .before .before .before .before .before .next) .ensures) ((c .before .before .before .before .before .before .before .before .before .before .before .before .step) .given .1)) .on, (c .before .before .before .before .before .on-comment) .ensures .on) })
 
 enum-told-10 : tie.Need-enum-told-10
 enum-told-10 c = search needs
@@ -193,22 +193,22 @@ returns-8 c =
       g = done (tokensAt ((c .before .before .before .before .before .before .before .before .before .before .before .args) .s .now) ((c .before .before .before .before .before .step) .given .0 .1 .0));
       walk = nested-goes (goes-by _ _ _ _ _ _ (λ base q. run-done _ _ _ _ _ _) ((told _ _ _ _ _ ((c .before .before .before .before .before .before .before .next) .ensures) ((c .before .before .before .before .before .step) .given .1)) .good) (omega (arith, (told _ _ _ _ _ ((c .before .before .before .before .before .before .before .next) .ensures) ((c .before .before .before .before .before .step) .given .1)) .on)) ((told _ _ _ _ _ ((c .before .before .before .before .before .before .before .next) .ensures) ((c .before .before .before .before .before .step) .given .1)) .base));
       goes-on = λ q. absurd (false≢true (sym q));
-      ends = λ q. (λ loop. document-at _ _ _ _ (told _ _ _ _ _ ((c .before .before .before .before .before .before .before .next) .ensures) ((c .before .before .before .before .before .step) .given .1)) _ _ ((c .before .before .before .in-document) .ensures) ((c .before .enum-told10) .given .1) ((c .before .before .before .before .before .before .before .before .before .before .before .args) .levels) loop);
+      ends = λ q. (λ loop. document-at _ _ _ _ (told _ _ _ _ _ ((c .before .before .before .before .before .before .before .next) .ensures) ((c .before .before .before .before .before .step) .given .1)) _ _ ((c .before .before .before .in-document) .ensures) ((c .before .enum-told10) .given .1) ((c .before .before .before .before .before .before .before .before .before .before .before .args) .settings .levels) loop);
       further = λ q. absurd (false≢true (sym q));
     })
 
 key-and-value-requires : tie.Need-key-and-value-requires
-key-and-value-requires c κs = (any-of (Met ((c .before .before .before .before .before .before .before .before .before .before .before .args) .levels) ((c .before .before .before .before .before .before .before .before .before .before .before .args) .s .now) ((c .before .before .before .before .before .before .before .before .before .before .before .args) .c) (bufs ((c .before .before .before .before .before .before .before .before .before .before .before .args) .events .now) ((c .before .before .before .before .before .before .before .before .before .before .before .args) .errors .now) ((c .before .before .before .before .before .before .before .before .before .before .before .args) .m)) ((c .before .before .match2) .from) ((c .before .before .match2) .events) ((c .before .before .before .before .before .before .before .before .before .before .before .args) .errors .now) ((c .before .before .match2) .n) ((c .before .before .match2) .message) (length ((c .before .before .before .before .before .before .before .before .before .before .before .args) .events .now))) ((c .before .before .match2) .came) (λ w. meet ((c .before .before .before .before .before .before .before .before .before .before .before .args) .errors .now) (w .9) (w .10 ∙ w .4 .ensures .0) (w .11) (w .12 ∙ w .4 .ensures .1) (begun-key ((c .before .before .before .before .before .before .before .before .before .before .before .args) .levels) (told _ _ _ _ _ ((c .before .before .before .before .before .before .before .next) .ensures) ((c .before .before .before .before .before .step) .given .1)) (w .1 .given .0 .0) (λ loop. document-at _ _ _ _ (told _ _ _ _ _ ((c .before .before .before .before .before .before .before .next) .ensures) ((c .before .before .before .before .before .step) .given .1)) _ _ ((c .before .before .before .in-document) .ensures) (w .1 .given .1) ((c .before .before .before .before .before .before .before .before .before .before .before .args) .levels) loop) (λ all. w .4 .ensures .2 all _), w .4 .kept .1 .1 .1 .1 .0)) (λ w. meet ((c .before .before .before .before .before .before .before .before .before .before .before .args) .errors .now) (w .7) (w .8) (w .9) (w .10) (begun-equals ((c .before .before .before .before .before .before .before .before .before .before .before .args) .levels) (told _ _ _ _ _ ((c .before .before .before .before .before .before .before .next) .ensures) ((c .before .before .before .before .before .step) .given .1)) (c .before .before .before .before .before .before .before .before .before .before .before .pre) (w .6 .ensures) _ (document-equals ((c .before .before .before .before .before .step) .given .0 .0 .kind) _ ((c .before .before .before .in-document) .ensures) (w .1 .given .1)) (λ loop. document-at _ _ _ _ (told _ _ _ _ _ ((c .before .before .before .before .before .before .before .next) .ensures) ((c .before .before .before .before .before .step) .given .1)) _ _ ((c .before .before .before .in-document) .ensures) (w .1 .given .1) ((c .before .before .before .before .before .before .before .before .before .before .before .args) .levels) loop) (λ all. w .3 .ensures all _), w .3 .kept .0)) (λ w. meet ((c .before .before .before .before .before .before .before .before .before .before .before .args) .errors .now) (w .8) (w .9) (w .10) (w .11 ∙ w .3 .ensures .1) (begun-dot ((c .before .before .before .before .before .before .before .before .before .before .before .args) .levels) (told _ _ _ _ _ ((c .before .before .before .before .before .before .before .next) .ensures) ((c .before .before .before .before .before .step) .given .1)) (c .before .before .before .before .before .before .before .before .before .before .before .pre) (w .3 .ensures .0) (document-dot ((c .before .before .before .before .before .step) .given .0 .0 .kind) _ ((c .before .before .before .in-document) .ensures) (w .1 .given .1)) (λ loop. document-at _ _ _ _ (told _ _ _ _ _ ((c .before .before .before .before .before .before .before .next) .ensures) ((c .before .before .before .before .before .step) .given .1)) _ _ ((c .before .before .before .in-document) .ensures) (w .1 .given .1) ((c .before .before .before .before .before .before .before .before .before .before .before .args) .levels) loop) (λ all. w .3 .ensures .2 all _), w .3 .kept .1 .1 .1 .1 .0))) .0 .good
+key-and-value-requires c κs = (any-of (Met ((c .before .before .before .before .before .before .before .before .before .before .before .args) .settings .levels) ((c .before .before .before .before .before .before .before .before .before .before .before .args) .s .now) ((c .before .before .before .before .before .before .before .before .before .before .before .args) .c) (bufs ((c .before .before .before .before .before .before .before .before .before .before .before .args) .events .now) ((c .before .before .before .before .before .before .before .before .before .before .before .args) .errors .now) ((c .before .before .before .before .before .before .before .before .before .before .before .args) .m)) ((c .before .before .match2) .from) ((c .before .before .match2) .events) ((c .before .before .before .before .before .before .before .before .before .before .before .args) .errors .now) ((c .before .before .match2) .n) ((c .before .before .match2) .message) (length ((c .before .before .before .before .before .before .before .before .before .before .before .args) .events .now))) ((c .before .before .match2) .came) (λ w. meet ((c .before .before .before .before .before .before .before .before .before .before .before .args) .errors .now) (w .9) (w .10 ∙ w .4 .ensures .0) (w .11) (w .12 ∙ w .4 .ensures .1) (begun-key ((c .before .before .before .before .before .before .before .before .before .before .before .args) .settings .levels) (told _ _ _ _ _ ((c .before .before .before .before .before .before .before .next) .ensures) ((c .before .before .before .before .before .step) .given .1)) (w .1 .given .0 .0) (λ loop. document-at _ _ _ _ (told _ _ _ _ _ ((c .before .before .before .before .before .before .before .next) .ensures) ((c .before .before .before .before .before .step) .given .1)) _ _ ((c .before .before .before .in-document) .ensures) (w .1 .given .1) ((c .before .before .before .before .before .before .before .before .before .before .before .args) .settings .levels) loop) (λ all. w .4 .ensures .2 all _), w .4 .kept .1 .1 .1 .1 .0)) (λ w. meet ((c .before .before .before .before .before .before .before .before .before .before .before .args) .errors .now) (w .7) (w .8) (w .9) (w .10) (begun-equals ((c .before .before .before .before .before .before .before .before .before .before .before .args) .settings .levels) (told _ _ _ _ _ ((c .before .before .before .before .before .before .before .next) .ensures) ((c .before .before .before .before .before .step) .given .1)) (c .before .before .before .before .before .before .before .before .before .before .before .pre) (w .6 .ensures) _ (document-equals ((c .before .before .before .before .before .step) .given .0 .0 .kind) _ ((c .before .before .before .in-document) .ensures) (w .1 .given .1)) (λ loop. document-at _ _ _ _ (told _ _ _ _ _ ((c .before .before .before .before .before .before .before .next) .ensures) ((c .before .before .before .before .before .step) .given .1)) _ _ ((c .before .before .before .in-document) .ensures) (w .1 .given .1) ((c .before .before .before .before .before .before .before .before .before .before .before .args) .settings .levels) loop) (λ all. w .3 .ensures all _), w .3 .kept .0)) (λ w. meet ((c .before .before .before .before .before .before .before .before .before .before .before .args) .errors .now) (w .8) (w .9) (w .10) (w .11 ∙ w .3 .ensures .1) (begun-dot ((c .before .before .before .before .before .before .before .before .before .before .before .args) .settings .levels) (told _ _ _ _ _ ((c .before .before .before .before .before .before .before .next) .ensures) ((c .before .before .before .before .before .step) .given .1)) (c .before .before .before .before .before .before .before .before .before .before .before .pre) (w .3 .ensures .0) (document-dot ((c .before .before .before .before .before .step) .given .0 .0 .kind) _ ((c .before .before .before .in-document) .ensures) (w .1 .given .1)) (λ loop. document-at _ _ _ _ (told _ _ _ _ _ ((c .before .before .before .before .before .before .before .next) .ensures) ((c .before .before .before .before .before .step) .given .1)) _ _ ((c .before .before .before .in-document) .ensures) (w .1 .given .1) ((c .before .before .before .before .before .before .before .before .before .before .before .args) .settings .levels) loop) (λ all. w .3 .ensures .2 all _), w .3 .kept .1 .1 .1 .1 .0))) .0 .good
 
 same-length-11 : tie.Need-same-length-11
-same-length-11 c = (c .before .before .before .before .key-and-value) .kept .1 .1 .1 .1 .1 .0 ∙ (any-of (Met ((c .before .before .before .before .before .before .before .before .before .before .before .before .before .before .before .before .args) .levels) ((c .before .before .before .before .before .before .before .before .before .before .before .before .before .before .before .before .args) .s .now) ((c .before .before .before .before .before .before .before .before .before .before .before .before .before .before .before .before .args) .c) (bufs ((c .before .before .before .before .before .before .before .before .before .before .before .before .before .before .before .before .args) .events .now) ((c .before .before .before .before .before .before .before .before .before .before .before .before .before .before .before .before .args) .errors .now) ((c .before .before .before .before .before .before .before .before .before .before .before .before .before .before .before .before .args) .m)) ((c .before .before .before .before .before .before .before .match2) .from) ((c .before .before .before .before .before .before .before .match2) .events) ((c .before .before .before .before .before .before .before .before .before .before .before .before .before .before .before .before .args) .errors .now) ((c .before .before .before .before .before .before .before .match2) .n) ((c .before .before .before .before .before .before .before .match2) .message) (length ((c .before .before .before .before .before .before .before .before .before .before .before .before .before .before .before .before .args) .events .now))) ((c .before .before .before .before .before .before .before .match2) .came) (λ w. meet ((c .before .before .before .before .before .before .before .before .before .before .before .before .before .before .before .before .args) .errors .now) (w .9) (w .10 ∙ w .4 .ensures .0) (w .11) (w .12 ∙ w .4 .ensures .1) (begun-key ((c .before .before .before .before .before .before .before .before .before .before .before .before .before .before .before .before .args) .levels) (told _ _ _ _ _ ((c .before .before .before .before .before .before .before .before .before .before .before .before .next) .ensures) ((c .before .before .before .before .before .before .before .before .before .before .step) .given .1)) (w .1 .given .0 .0) (λ loop. document-at _ _ _ _ (told _ _ _ _ _ ((c .before .before .before .before .before .before .before .before .before .before .before .before .next) .ensures) ((c .before .before .before .before .before .before .before .before .before .before .step) .given .1)) _ _ ((c .before .before .before .before .before .before .before .before .in-document) .ensures) (w .1 .given .1) ((c .before .before .before .before .before .before .before .before .before .before .before .before .before .before .before .before .args) .levels) loop) (λ all. w .4 .ensures .2 all _), w .4 .kept .1 .1 .1 .1 .0)) (λ w. meet ((c .before .before .before .before .before .before .before .before .before .before .before .before .before .before .before .before .args) .errors .now) (w .7) (w .8) (w .9) (w .10) (begun-equals ((c .before .before .before .before .before .before .before .before .before .before .before .before .before .before .before .before .args) .levels) (told _ _ _ _ _ ((c .before .before .before .before .before .before .before .before .before .before .before .before .next) .ensures) ((c .before .before .before .before .before .before .before .before .before .before .step) .given .1)) (c .before .before .before .before .before .before .before .before .before .before .before .before .before .before .before .before .pre) (w .6 .ensures) _ (document-equals ((c .before .before .before .before .before .before .before .before .before .before .step) .given .0 .0 .kind) _ ((c .before .before .before .before .before .before .before .before .in-document) .ensures) (w .1 .given .1)) (λ loop. document-at _ _ _ _ (told _ _ _ _ _ ((c .before .before .before .before .before .before .before .before .before .before .before .before .next) .ensures) ((c .before .before .before .before .before .before .before .before .before .before .step) .given .1)) _ _ ((c .before .before .before .before .before .before .before .before .in-document) .ensures) (w .1 .given .1) ((c .before .before .before .before .before .before .before .before .before .before .before .before .before .before .before .before .args) .levels) loop) (λ all. w .3 .ensures all _), w .3 .kept .0)) (λ w. meet ((c .before .before .before .before .before .before .before .before .before .before .before .before .before .before .before .before .args) .errors .now) (w .8) (w .9) (w .10) (w .11 ∙ w .3 .ensures .1) (begun-dot ((c .before .before .before .before .before .before .before .before .before .before .before .before .before .before .before .before .args) .levels) (told _ _ _ _ _ ((c .before .before .before .before .before .before .before .before .before .before .before .before .next) .ensures) ((c .before .before .before .before .before .before .before .before .before .before .step) .given .1)) (c .before .before .before .before .before .before .before .before .before .before .before .before .before .before .before .before .pre) (w .3 .ensures .0) (document-dot ((c .before .before .before .before .before .before .before .before .before .before .step) .given .0 .0 .kind) _ ((c .before .before .before .before .before .before .before .before .in-document) .ensures) (w .1 .given .1)) (λ loop. document-at _ _ _ _ (told _ _ _ _ _ ((c .before .before .before .before .before .before .before .before .before .before .before .before .next) .ensures) ((c .before .before .before .before .before .before .before .before .before .before .step) .given .1)) _ _ ((c .before .before .before .before .before .before .before .before .in-document) .ensures) (w .1 .given .1) ((c .before .before .before .before .before .before .before .before .before .before .before .before .before .before .before .before .args) .levels) loop) (λ all. w .3 .ensures .2 all _), w .3 .kept .1 .1 .1 .1 .0))) .1
+same-length-11 c = (c .before .before .before .before .key-and-value) .kept .1 .1 .1 .1 .1 .0 ∙ (any-of (Met ((c .before .before .before .before .before .before .before .before .before .before .before .before .before .before .before .before .args) .settings .levels) ((c .before .before .before .before .before .before .before .before .before .before .before .before .before .before .before .before .args) .s .now) ((c .before .before .before .before .before .before .before .before .before .before .before .before .before .before .before .before .args) .c) (bufs ((c .before .before .before .before .before .before .before .before .before .before .before .before .before .before .before .before .args) .events .now) ((c .before .before .before .before .before .before .before .before .before .before .before .before .before .before .before .before .args) .errors .now) ((c .before .before .before .before .before .before .before .before .before .before .before .before .before .before .before .before .args) .m)) ((c .before .before .before .before .before .before .before .match2) .from) ((c .before .before .before .before .before .before .before .match2) .events) ((c .before .before .before .before .before .before .before .before .before .before .before .before .before .before .before .before .args) .errors .now) ((c .before .before .before .before .before .before .before .match2) .n) ((c .before .before .before .before .before .before .before .match2) .message) (length ((c .before .before .before .before .before .before .before .before .before .before .before .before .before .before .before .before .args) .events .now))) ((c .before .before .before .before .before .before .before .match2) .came) (λ w. meet ((c .before .before .before .before .before .before .before .before .before .before .before .before .before .before .before .before .args) .errors .now) (w .9) (w .10 ∙ w .4 .ensures .0) (w .11) (w .12 ∙ w .4 .ensures .1) (begun-key ((c .before .before .before .before .before .before .before .before .before .before .before .before .before .before .before .before .args) .settings .levels) (told _ _ _ _ _ ((c .before .before .before .before .before .before .before .before .before .before .before .before .next) .ensures) ((c .before .before .before .before .before .before .before .before .before .before .step) .given .1)) (w .1 .given .0 .0) (λ loop. document-at _ _ _ _ (told _ _ _ _ _ ((c .before .before .before .before .before .before .before .before .before .before .before .before .next) .ensures) ((c .before .before .before .before .before .before .before .before .before .before .step) .given .1)) _ _ ((c .before .before .before .before .before .before .before .before .in-document) .ensures) (w .1 .given .1) ((c .before .before .before .before .before .before .before .before .before .before .before .before .before .before .before .before .args) .settings .levels) loop) (λ all. w .4 .ensures .2 all _), w .4 .kept .1 .1 .1 .1 .0)) (λ w. meet ((c .before .before .before .before .before .before .before .before .before .before .before .before .before .before .before .before .args) .errors .now) (w .7) (w .8) (w .9) (w .10) (begun-equals ((c .before .before .before .before .before .before .before .before .before .before .before .before .before .before .before .before .args) .settings .levels) (told _ _ _ _ _ ((c .before .before .before .before .before .before .before .before .before .before .before .before .next) .ensures) ((c .before .before .before .before .before .before .before .before .before .before .step) .given .1)) (c .before .before .before .before .before .before .before .before .before .before .before .before .before .before .before .before .pre) (w .6 .ensures) _ (document-equals ((c .before .before .before .before .before .before .before .before .before .before .step) .given .0 .0 .kind) _ ((c .before .before .before .before .before .before .before .before .in-document) .ensures) (w .1 .given .1)) (λ loop. document-at _ _ _ _ (told _ _ _ _ _ ((c .before .before .before .before .before .before .before .before .before .before .before .before .next) .ensures) ((c .before .before .before .before .before .before .before .before .before .before .step) .given .1)) _ _ ((c .before .before .before .before .before .before .before .before .in-document) .ensures) (w .1 .given .1) ((c .before .before .before .before .before .before .before .before .before .before .before .before .before .before .before .before .args) .settings .levels) loop) (λ all. w .3 .ensures all _), w .3 .kept .0)) (λ w. meet ((c .before .before .before .before .before .before .before .before .before .before .before .before .before .before .before .before .args) .errors .now) (w .8) (w .9) (w .10) (w .11 ∙ w .3 .ensures .1) (begun-dot ((c .before .before .before .before .before .before .before .before .before .before .before .before .before .before .before .before .args) .settings .levels) (told _ _ _ _ _ ((c .before .before .before .before .before .before .before .before .before .before .before .before .next) .ensures) ((c .before .before .before .before .before .before .before .before .before .before .step) .given .1)) (c .before .before .before .before .before .before .before .before .before .before .before .before .before .before .before .before .pre) (w .3 .ensures .0) (document-dot ((c .before .before .before .before .before .before .before .before .before .before .step) .given .0 .0 .kind) _ ((c .before .before .before .before .before .before .before .before .in-document) .ensures) (w .1 .given .1)) (λ loop. document-at _ _ _ _ (told _ _ _ _ _ ((c .before .before .before .before .before .before .before .before .before .before .before .before .next) .ensures) ((c .before .before .before .before .before .before .before .before .before .before .step) .given .1)) _ _ ((c .before .before .before .before .before .before .before .before .in-document) .ensures) (w .1 .given .1) ((c .before .before .before .before .before .before .before .before .before .before .before .before .before .before .before .before .args) .settings .levels) loop) (λ all. w .3 .ensures .2 all _), w .3 .kept .1 .1 .1 .1 .0))) .1
 
 same-length-12 : tie.Need-same-length-12
 same-length-12 c = (c .before .before .before .before .key-and-value) .kept .1 .1 .1 .1 .1 .1 .0
 
 returns-9 : tie.Need-returns-9
 returns-9 c =
-    let j : Met ((c .before .before .before .before .before .before .before .before .before .before .before .before .before .before .before .before .args) .levels) ((c .before .before .before .before .before .before .before .before .before .before .before .before .before .before .before .before .args) .s .now) ((c .before .before .before .before .before .before .before .before .before .before .before .before .before .before .before .before .args) .c) (bufs ((c .before .before .before .before .before .before .before .before .before .before .before .before .before .before .before .before .args) .events .now) ((c .before .before .before .before .before .before .before .before .before .before .before .before .before .before .before .before .args) .errors .now) ((c .before .before .before .before .before .before .before .before .before .before .before .before .before .before .before .before .args) .m)) ((c .before .before .before .before .before .before .before .match2) .from) ((c .before .before .before .before .before .before .before .match2) .events) ((c .before .before .before .before .before .before .before .before .before .before .before .before .before .before .before .before .args) .errors .now) ((c .before .before .before .before .before .before .before .match2) .n) ((c .before .before .before .before .before .before .before .match2) .message) (length ((c .before .before .before .before .before .before .before .before .before .before .before .before .before .before .before .before .args) .events .now)) = (any-of (Met ((c .before .before .before .before .before .before .before .before .before .before .before .before .before .before .before .before .args) .levels) ((c .before .before .before .before .before .before .before .before .before .before .before .before .before .before .before .before .args) .s .now) ((c .before .before .before .before .before .before .before .before .before .before .before .before .before .before .before .before .args) .c) (bufs ((c .before .before .before .before .before .before .before .before .before .before .before .before .before .before .before .before .args) .events .now) ((c .before .before .before .before .before .before .before .before .before .before .before .before .before .before .before .before .args) .errors .now) ((c .before .before .before .before .before .before .before .before .before .before .before .before .before .before .before .before .args) .m)) ((c .before .before .before .before .before .before .before .match2) .from) ((c .before .before .before .before .before .before .before .match2) .events) ((c .before .before .before .before .before .before .before .before .before .before .before .before .before .before .before .before .args) .errors .now) ((c .before .before .before .before .before .before .before .match2) .n) ((c .before .before .before .before .before .before .before .match2) .message) (length ((c .before .before .before .before .before .before .before .before .before .before .before .before .before .before .before .before .args) .events .now))) ((c .before .before .before .before .before .before .before .match2) .came) (λ w. meet ((c .before .before .before .before .before .before .before .before .before .before .before .before .before .before .before .before .args) .errors .now) (w .9) (w .10 ∙ w .4 .ensures .0) (w .11) (w .12 ∙ w .4 .ensures .1) (begun-key ((c .before .before .before .before .before .before .before .before .before .before .before .before .before .before .before .before .args) .levels) (told _ _ _ _ _ ((c .before .before .before .before .before .before .before .before .before .before .before .before .next) .ensures) ((c .before .before .before .before .before .before .before .before .before .before .step) .given .1)) (w .1 .given .0 .0) (λ loop. document-at _ _ _ _ (told _ _ _ _ _ ((c .before .before .before .before .before .before .before .before .before .before .before .before .next) .ensures) ((c .before .before .before .before .before .before .before .before .before .before .step) .given .1)) _ _ ((c .before .before .before .before .before .before .before .before .in-document) .ensures) (w .1 .given .1) ((c .before .before .before .before .before .before .before .before .before .before .before .before .before .before .before .before .args) .levels) loop) (λ all. w .4 .ensures .2 all _), w .4 .kept .1 .1 .1 .1 .0)) (λ w. meet ((c .before .before .before .before .before .before .before .before .before .before .before .before .before .before .before .before .args) .errors .now) (w .7) (w .8) (w .9) (w .10) (begun-equals ((c .before .before .before .before .before .before .before .before .before .before .before .before .before .before .before .before .args) .levels) (told _ _ _ _ _ ((c .before .before .before .before .before .before .before .before .before .before .before .before .next) .ensures) ((c .before .before .before .before .before .before .before .before .before .before .step) .given .1)) (c .before .before .before .before .before .before .before .before .before .before .before .before .before .before .before .before .pre) (w .6 .ensures) _ (document-equals ((c .before .before .before .before .before .before .before .before .before .before .step) .given .0 .0 .kind) _ ((c .before .before .before .before .before .before .before .before .in-document) .ensures) (w .1 .given .1)) (λ loop. document-at _ _ _ _ (told _ _ _ _ _ ((c .before .before .before .before .before .before .before .before .before .before .before .before .next) .ensures) ((c .before .before .before .before .before .before .before .before .before .before .step) .given .1)) _ _ ((c .before .before .before .before .before .before .before .before .in-document) .ensures) (w .1 .given .1) ((c .before .before .before .before .before .before .before .before .before .before .before .before .before .before .before .before .args) .levels) loop) (λ all. w .3 .ensures all _), w .3 .kept .0)) (λ w. meet ((c .before .before .before .before .before .before .before .before .before .before .before .before .before .before .before .before .args) .errors .now) (w .8) (w .9) (w .10) (w .11 ∙ w .3 .ensures .1) (begun-dot ((c .before .before .before .before .before .before .before .before .before .before .before .before .before .before .before .before .args) .levels) (told _ _ _ _ _ ((c .before .before .before .before .before .before .before .before .before .before .before .before .next) .ensures) ((c .before .before .before .before .before .before .before .before .before .before .step) .given .1)) (c .before .before .before .before .before .before .before .before .before .before .before .before .before .before .before .before .pre) (w .3 .ensures .0) (document-dot ((c .before .before .before .before .before .before .before .before .before .before .step) .given .0 .0 .kind) _ ((c .before .before .before .before .before .before .before .before .in-document) .ensures) (w .1 .given .1)) (λ loop. document-at _ _ _ _ (told _ _ _ _ _ ((c .before .before .before .before .before .before .before .before .before .before .before .before .next) .ensures) ((c .before .before .before .before .before .before .before .before .before .before .step) .given .1)) _ _ ((c .before .before .before .before .before .before .before .before .in-document) .ensures) (w .1 .given .1) ((c .before .before .before .before .before .before .before .before .before .before .before .before .before .before .before .before .args) .levels) loop) (λ all. w .3 .ensures .2 all _), w .3 .kept .1 .1 .1 .1 .0))) in
+    let j : Met ((c .before .before .before .before .before .before .before .before .before .before .before .before .before .before .before .before .args) .settings .levels) ((c .before .before .before .before .before .before .before .before .before .before .before .before .before .before .before .before .args) .s .now) ((c .before .before .before .before .before .before .before .before .before .before .before .before .before .before .before .before .args) .c) (bufs ((c .before .before .before .before .before .before .before .before .before .before .before .before .before .before .before .before .args) .events .now) ((c .before .before .before .before .before .before .before .before .before .before .before .before .before .before .before .before .args) .errors .now) ((c .before .before .before .before .before .before .before .before .before .before .before .before .before .before .before .before .args) .m)) ((c .before .before .before .before .before .before .before .match2) .from) ((c .before .before .before .before .before .before .before .match2) .events) ((c .before .before .before .before .before .before .before .before .before .before .before .before .before .before .before .before .args) .errors .now) ((c .before .before .before .before .before .before .before .match2) .n) ((c .before .before .before .before .before .before .before .match2) .message) (length ((c .before .before .before .before .before .before .before .before .before .before .before .before .before .before .before .before .args) .events .now)) = (any-of (Met ((c .before .before .before .before .before .before .before .before .before .before .before .before .before .before .before .before .args) .settings .levels) ((c .before .before .before .before .before .before .before .before .before .before .before .before .before .before .before .before .args) .s .now) ((c .before .before .before .before .before .before .before .before .before .before .before .before .before .before .before .before .args) .c) (bufs ((c .before .before .before .before .before .before .before .before .before .before .before .before .before .before .before .before .args) .events .now) ((c .before .before .before .before .before .before .before .before .before .before .before .before .before .before .before .before .args) .errors .now) ((c .before .before .before .before .before .before .before .before .before .before .before .before .before .before .before .before .args) .m)) ((c .before .before .before .before .before .before .before .match2) .from) ((c .before .before .before .before .before .before .before .match2) .events) ((c .before .before .before .before .before .before .before .before .before .before .before .before .before .before .before .before .args) .errors .now) ((c .before .before .before .before .before .before .before .match2) .n) ((c .before .before .before .before .before .before .before .match2) .message) (length ((c .before .before .before .before .before .before .before .before .before .before .before .before .before .before .before .before .args) .events .now))) ((c .before .before .before .before .before .before .before .match2) .came) (λ w. meet ((c .before .before .before .before .before .before .before .before .before .before .before .before .before .before .before .before .args) .errors .now) (w .9) (w .10 ∙ w .4 .ensures .0) (w .11) (w .12 ∙ w .4 .ensures .1) (begun-key ((c .before .before .before .before .before .before .before .before .before .before .before .before .before .before .before .before .args) .settings .levels) (told _ _ _ _ _ ((c .before .before .before .before .before .before .before .before .before .before .before .before .next) .ensures) ((c .before .before .before .before .before .before .before .before .before .before .step) .given .1)) (w .1 .given .0 .0) (λ loop. document-at _ _ _ _ (told _ _ _ _ _ ((c .before .before .before .before .before .before .before .before .before .before .before .before .next) .ensures) ((c .before .before .before .before .before .before .before .before .before .before .step) .given .1)) _ _ ((c .before .before .before .before .before .before .before .before .in-document) .ensures) (w .1 .given .1) ((c .before .before .before .before .before .before .before .before .before .before .before .before .before .before .before .before .args) .settings .levels) loop) (λ all. w .4 .ensures .2 all _), w .4 .kept .1 .1 .1 .1 .0)) (λ w. meet ((c .before .before .before .before .before .before .before .before .before .before .before .before .before .before .before .before .args) .errors .now) (w .7) (w .8) (w .9) (w .10) (begun-equals ((c .before .before .before .before .before .before .before .before .before .before .before .before .before .before .before .before .args) .settings .levels) (told _ _ _ _ _ ((c .before .before .before .before .before .before .before .before .before .before .before .before .next) .ensures) ((c .before .before .before .before .before .before .before .before .before .before .step) .given .1)) (c .before .before .before .before .before .before .before .before .before .before .before .before .before .before .before .before .pre) (w .6 .ensures) _ (document-equals ((c .before .before .before .before .before .before .before .before .before .before .step) .given .0 .0 .kind) _ ((c .before .before .before .before .before .before .before .before .in-document) .ensures) (w .1 .given .1)) (λ loop. document-at _ _ _ _ (told _ _ _ _ _ ((c .before .before .before .before .before .before .before .before .before .before .before .before .next) .ensures) ((c .before .before .before .before .before .before .before .before .before .before .step) .given .1)) _ _ ((c .before .before .before .before .before .before .before .before .in-document) .ensures) (w .1 .given .1) ((c .before .before .before .before .before .before .before .before .before .before .before .before .before .before .before .before .args) .settings .levels) loop) (λ all. w .3 .ensures all _), w .3 .kept .0)) (λ w. meet ((c .before .before .before .before .before .before .before .before .before .before .before .before .before .before .before .before .args) .errors .now) (w .8) (w .9) (w .10) (w .11 ∙ w .3 .ensures .1) (begun-dot ((c .before .before .before .before .before .before .before .before .before .before .before .before .before .before .before .before .args) .settings .levels) (told _ _ _ _ _ ((c .before .before .before .before .before .before .before .before .before .before .before .before .next) .ensures) ((c .before .before .before .before .before .before .before .before .before .before .step) .given .1)) (c .before .before .before .before .before .before .before .before .before .before .before .before .before .before .before .before .pre) (w .3 .ensures .0) (document-dot ((c .before .before .before .before .before .before .before .before .before .before .step) .given .0 .0 .kind) _ ((c .before .before .before .before .before .before .before .before .in-document) .ensures) (w .1 .given .1)) (λ loop. document-at _ _ _ _ (told _ _ _ _ _ ((c .before .before .before .before .before .before .before .before .before .before .before .before .next) .ensures) ((c .before .before .before .before .before .before .before .before .before .before .step) .given .1)) _ _ ((c .before .before .before .before .before .before .before .before .in-document) .ensures) (w .1 .given .1) ((c .before .before .before .before .before .before .before .before .before .before .before .before .before .before .before .before .args) .settings .levels) loop) (λ all. w .3 .ensures .2 all _), w .3 .kept .1 .1 .1 .1 .0))) in
     record { g = j .0 .g; walk = j .0 .walk _ _ _ ((c .before .before .before .before .key-and-value) .ensures); goes-on = λ q. j .0 .turn; ends = λ q. absurd (false≢true q); further = λ q. j .0 .further _ _ _ ((c .before .before .before .before .key-and-value) .ensures) }
 
 pub document-turn-spec : {M : Type 1} → statement M

@@ -24,7 +24,7 @@ new-requires : tie.Need-new-requires
 new-requires c κs = search needs
 
 returns : tie.Need-returns
-returns c = λ entry events errors. subst (λ (r : Answer). Answers entry ((c .before .before .before .before .before .before .args) .s .now) ((c .before .before .before .before .before .before .args) .base) events errors events errors r) (sym ((c .counted) .ensures)) (sym (outcome-unread entry ((c .before .before .before .before .before .before .args) .s .now) ((c .before .before .before .before .before .before .args) .base) events errors _ _ (sym ((c .before .before .before .before .check) .ensures) ∙ (c .before .before .checked) .given .1)))
+returns c = λ options entry events errors. subst (λ (r : Answer). Answers options entry ((c .before .before .before .before .before .before .args) .s .now) ((c .before .before .before .before .before .before .args) .base) events errors events errors r) (sym ((c .counted) .ensures)) (sym (outcome-unread options entry ((c .before .before .before .before .before .before .args) .s .now) ((c .before .before .before .before .before .before .args) .base) events errors _ _ (sym ((c .before .before .before .before .check) .ensures) ∙ (c .before .before .checked) .given .1)))
 
 returns-2 : tie.Need-returns-2
 returns-2 c = record { passed = (sym ((c .before .before .before .check) .ensures) ∙ (c .before .enum-told) .given .1); at = (c .new) .ensures; none = refl }

@@ -19,7 +19,7 @@ read-document-requires : tie.Need-read-document-requires
 read-document-requires c κs = begun-start ((c .before .before .before .before .begin) .ensures) ((c .before .before .enum-told) .given .1) .passed
 
 returns : tie.Need-returns
-returns c = begun-refused ((c .before .before .before .before .before .before .before .args) .s .now) ((c .before .before .before .before .before .before .before .args) .base) ((c .before .before .before .begin) .ensures) ((c .before .begun) .given .1) documentEntry _ _
+returns c = begun-refused ((c .before .before .before .before .before .before .before .args) .s .now) ((c .before .before .before .before .before .before .before .args) .base) ((c .before .before .before .begin) .ensures) ((c .before .begun) .given .1) ((c .before .before .before .before .before .before .before .args) .options) documentEntry _ _
 
 same-length : tie.Need-same-length
 same-length c = search needs

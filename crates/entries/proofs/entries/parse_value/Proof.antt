@@ -4,7 +4,7 @@ use mathlib.Core.Path.{refl}
 use Rattle.rules.specs.Entries.{valueEntry}
 use Rattle.rules.specs.Limits.{maxDepth}
 use Rattle.rules.specs.Value.{value}
-use Rattle.entries.proofs.EntryLaws.{begun-refused, begun-start, start-good, start-few, entered}
+use Rattle.entries.proofs.EntryLaws.{begun-refused, begun-start, start-good, still-passed, entered}
 use borrow.Author.Needs.{needs}
 use Rattle.entries.proofs.entries.parse_value.Statement.{statement}
 use Rattle.entries.proofs.entries.parse_value.Tie as tie
@@ -22,10 +22,10 @@ value-requires : tie.Need-value-requires
 value-requires c κs = start-good (begun-start ((c .before .before .before .before .before .begin) .ensures) ((c .before .before .before .begun2) .given .1))
 
 answered-requires : tie.Need-answered-requires
-answered-requires c κs = (((c .before .before .before .before .before .before .value) .ensures) .good, start-few (begun-start ((c .before .before .before .before .before .before .before .before .before .before .before .before .begin) .ensures) ((c .before .before .before .before .before .before .before .before .before .before .begun2) .given .1)))
+answered-requires c κs = (((c .before .before .before .before .before .before .value) .ensures) .good, still-passed (begun-start ((c .before .before .before .before .before .before .before .before .before .before .before .before .begin) .ensures) ((c .before .before .before .before .before .before .before .before .before .before .begun2) .given .1)) ((c .before .before .before .before .before .before .value) .ensures))
 
 returns : tie.Need-returns
-returns c = begun-refused ((c .before .before .before .before .before .before .before .args) .s .now) ((c .before .before .before .before .before .before .before .args) .base) ((c .before .before .before .begin) .ensures) ((c .before .begun) .given .1) valueEntry _ _
+returns c = begun-refused ((c .before .before .before .before .before .before .before .args) .s .now) ((c .before .before .before .before .before .before .before .args) .base) ((c .before .before .before .begin) .ensures) ((c .before .begun) .given .1) ((c .before .before .before .before .before .before .before .args) .options) valueEntry _ _
 
 same-length : tie.Need-same-length
 same-length c = search needs

@@ -4,7 +4,7 @@ use mathlib.Core.Path.{refl}
 use Rattle.rules.specs.Entries.{documentEntry}
 use Rattle.rules.specs.Limits.{maxDepth}
 use Rattle.rules.specs.Document.{document}
-use Rattle.entries.proofs.EntryLaws.{start-good, start-few, entered}
+use Rattle.entries.proofs.EntryLaws.{start-good, still-passed, entered}
 use borrow.Author.Needs.{needs}
 use Rattle.entries.proofs.entries.read_document.Statement.{statement}
 use Rattle.entries.proofs.entries.read_document.Tie as tie
@@ -16,7 +16,7 @@ document-requires : tie.Need-document-requires
 document-requires c κs = start-good (record { passed = (c .before .before .before .before .before .before .pre); at = (c .before .before .new) .ensures; none = refl })
 
 answered-requires : tie.Need-answered-requires
-answered-requires c κs = ((c .before .before .before .before .before .before .document) .ensures .good, start-few (record { passed = (c .before .before .before .before .before .before .before .before .before .before .before .before .before .pre); at = (c .before .before .before .before .before .before .before .before .before .new) .ensures; none = refl }))
+answered-requires c κs = ((c .before .before .before .before .before .before .document) .ensures .good, still-passed (record { passed = (c .before .before .before .before .before .before .before .before .before .before .before .before .before .pre); at = (c .before .before .before .before .before .before .before .before .before .new) .ensures; none = refl }) ((c .before .before .before .before .before .before .document) .ensures))
 
 same-length : tie.Need-same-length
 same-length c = search needs

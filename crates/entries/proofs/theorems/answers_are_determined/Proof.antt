@@ -4,7 +4,7 @@ use Rattle.entries.proofs.theorems.answers_are_determined.Statement.{st
 use Rattle.entries.proofs.theorems.answers_are_determined.Tie as tie
 
 returns : tie.Need-returns
-returns c = λ entry x y p q. p ∙ sym q
+returns c = λ options entry x y p q. p ∙ sym q
 
 pub answers-are-determined-spec : {M : Type 1} → statement M
 answers-are-determined-spec = tie.close (tie.spec returns)

@@ -59,7 +59,7 @@ returns : tie.Need-returns
 returns c =
     let j : Met ((c .before .before .before .before .before .before .before .before .before .before .before .before .before .before .before .before .before .before .before .before .before .before .before .before .before .args) .s .now) ((c .before .before .before .before .before .before .before .before .before .before .before .before .before .before .before .before .before .before .before .before .before .before .before .before .before .args) .c) (bufs ((c .before .before .before .before .before .before .before .before .before .before .before .before .before .before .before .before .before .before .before .before .before .before .before .before .before .args) .events .now) ((c .before .before .before .before .before .before .before .before .before .before .before .before .before .before .before .before .before .before .before .before .before .before .before .before .before .args) .errors .now) ((c .before .before .before .before .before .before .before .before .before .before .before .before .before .before .before .before .before .before .before .before .before .before .before .before .before .args) .m)) ((c .before .before .before .before .before .before .before .before .before .before .before .match) .events) ((c .before .before .before .before .before .before .before .before .before .before .before .match) .errors) (record { cur = (c .before .before .before .before .before .before .before .before .before .before .before .match) .cur; n = (c .before .before .before .before .before .before .before .before .before .before .before .match) .n }) (length ((c .before .before .before .before .before .before .before .before .before .before .before .before .before .before .before .before .before .before .before .before .before .before .before .before .before .args) .events .now)) (length ((c .before .before .before .before .before .before .before .before .before .before .before .before .before .before .before .before .before .before .before .before .before .before .before .before .before .args) .errors .now)) = (either (Met ((c .before .before .before .before .before .before .before .before .before .before .before .before .before .before .before .before .before .before .before .before .before .before .before .before .before .args) .s .now) ((c .before .before .before .before .before .before .before .before .before .before .before .before .before .before .before .before .before .before .before .before .before .before .before .before .before .args) .c) (bufs ((c .before .before .before .before .before .before .before .before .before .before .before .before .before .before .before .before .before .before .before .before .before .before .before .before .before .args) .events .now) ((c .before .before .before .before .before .before .before .before .before .before .before .before .before .before .before .before .before .before .before .before .before .before .before .before .before .args) .errors .now) ((c .before .before .before .before .before .before .before .before .before .before .before .before .before .before .before .before .before .before .before .before .before .before .before .before .before .args) .m)) ((c .before .before .before .before .before .before .before .before .before .before .before .match) .events) ((c .before .before .before .before .before .before .before .before .before .before .before .match) .errors) (record { cur = (c .before .before .before .before .before .before .before .before .before .before .before .match) .cur; n = (c .before .before .before .before .before .before .before .before .before .before .before .match) .n }) (length ((c .before .before .before .before .before .before .before .before .before .before .before .before .before .before .before .before .before .before .before .before .before .before .before .before .before .args) .events .now)) (length ((c .before .before .before .before .before .before .before .before .before .before .before .before .before .before .before .before .before .before .before .before .before .before .before .before .before .args) .errors .now))) ((c .before .before .before .before .before .before .before .before .before .before .before .match) .came) (λ w. meet _ (w .2) (w .3) (w .4) (w .5) (before-equals (c .before .before .before .before .before .before .before .before .before .before .before .before .before .before .before .before .before .before .before .before .before .before .before .before .before .pre) ((c .before .before .before .before .before .before .before .before .before .before .before .before .before .before .before .before .before .before .before .opt-whitespace) .ensures) (told-if _ _ _ _ _ _ ((c .before .before .before .before .before .before .before .before .before .before .before .before .next-token-if) .ensures) (w .1 .given .1)), (c .before .before .before .before .before .before .before .before .before .before .before .before .before .before .before .before .before .before .before .opt-whitespace) .kept .1 .1 .1 .0, (c .before .before .before .before .before .before .before .before .before .before .before .before .before .before .before .before .before .before .before .opt-whitespace) .kept .1 .1 .1 .1 .0)) (λ w. meet _ (w .20) (w .21) (w .22) (w .23) (before-dots (c .before .before .before .before .before .before .before .before .before .before .before .before .before .before .before .before .before .before .before .before .before .before .before .before .before .pre) ((c .before .before .before .before .before .before .before .before .before .before .before .before .before .before .before .before .before .before .before .opt-whitespace) .ensures) (w .4 .ensures .goes) (w .13 .ensures), w .13 .kept .1 .1 .1 .0 ∙ w .4 .kept .1 .1 .1 .0 ∙ (c .before .before .before .before .before .before .before .before .before .before .before .before .before .before .before .before .before .before .before .opt-whitespace) .kept .1 .1 .1 .0, w .13 .kept .1 .1 .1 .1 .0 ∙ w .4 .kept .1 .1 .1 .1 .0 ∙ (c .before .before .before .before .before .before .before .before .before .before .before .before .before .before .before .before .before .before .before .opt-whitespace) .kept .1 .1 .1 .1 .0))) in
     record {
-      nested = nested-after (nextTokenIf Kind.Equals (onExpressionKeyValSep ((c .before .before .before .before .before .before .before .before .before .before .before .before .before .before .before .before .before .before .before .before .before .before .before .before .before .args) .levels)) (noEquals ((c .before .before .before .before .before .before .before .before .before .before .before .before .before .before .before .before .before .before .before .before .before .before .before .before .before .args) .message))) (j .0 .goes) (nested-as (sym (next-none _ _ Kind.Equals (onExpressionKeyValSep ((c .before .before .before .before .before .before .before .before .before .before .before .before .before .before .before .before .before .before .before .before .before .before .before .before .before .args) .levels)) (noEquals ((c .before .before .before .before .before .before .before .before .before .before .before .before .before .before .before .before .before .before .before .before .before .before .before .before .before .args) .message)) (told-none _ _ _ _ ((c .before .before .before .before .before .before .before .before .before .before .next-token-if2) .ensures) ((c .before .before .before .before .before .before .before .before .enum-told3) .given .1)))) (nested-same ((c .unstopped) .ensures) (nested-goes ((c .before .before .before .before .before .no-equals) .ensures))));
+      nested = nested-after (nextTokenIf Kind.Equals (onExpressionKeyValSep ((c .before .before .before .before .before .before .before .before .before .before .before .before .before .before .before .before .before .before .before .before .before .before .before .before .before .args) .settings .levels)) (noEquals ((c .before .before .before .before .before .before .before .before .before .before .before .before .before .before .before .before .before .before .before .before .before .before .before .before .before .args) .message))) (j .0 .goes) (nested-as (sym (next-none _ _ Kind.Equals (onExpressionKeyValSep ((c .before .before .before .before .before .before .before .before .before .before .before .before .before .before .before .before .before .before .before .before .before .before .before .before .before .args) .settings .levels)) (noEquals ((c .before .before .before .before .before .before .before .before .before .before .before .before .before .before .before .before .before .before .before .before .before .before .before .before .before .args) .message)) (told-none _ _ _ _ ((c .before .before .before .before .before .before .before .before .before .before .next-token-if2) .ensures) ((c .before .before .before .before .before .before .before .before .enum-told3) .given .1)))) (nested-same ((c .unstopped) .ensures) (nested-goes ((c .before .before .before .before .before .no-equals) .ensures))));
       dotted = λ e. omega (arith, j .0 .dotted e, (c .before .before .before .before .before .no-equals) .ensures .on, ap (λ (v : NestWalk). v .cur .at) ((c .unstopped) .ensures));
       equalled = λ e. absurd (equals-first (j .0) (told-none _ _ _ _ ((c .before .before .before .before .before .before .before .before .before .before .next-token-if2) .ensures) ((c .before .before .before .before .before .before .before .before .enum-told3) .given .1)) e);
     }
@@ -77,7 +77,7 @@ returns-2 : tie.Need-returns-2
 returns-2 c =
     let j : Met ((c .before .before .before .before .before .before .before .before .before .before .before .before .before .before .before .before .before .before .before .before .before .before .before .before .before .args) .s .now) ((c .before .before .before .before .before .before .before .before .before .before .before .before .before .before .before .before .before .before .before .before .before .before .before .before .before .args) .c) (bufs ((c .before .before .before .before .before .before .before .before .before .before .before .before .before .before .before .before .before .before .before .before .before .before .before .before .before .args) .events .now) ((c .before .before .before .before .before .before .before .before .before .before .before .before .before .before .before .before .before .before .before .before .before .before .before .before .before .args) .errors .now) ((c .before .before .before .before .before .before .before .before .before .before .before .before .before .before .before .before .before .before .before .before .before .before .before .before .before .args) .m)) ((c .before .before .before .before .before .before .before .before .before .before .before .match) .events) ((c .before .before .before .before .before .before .before .before .before .before .before .match) .errors) (record { cur = (c .before .before .before .before .before .before .before .before .before .before .before .match) .cur; n = (c .before .before .before .before .before .before .before .before .before .before .before .match) .n }) (length ((c .before .before .before .before .before .before .before .before .before .before .before .before .before .before .before .before .before .before .before .before .before .before .before .before .before .args) .events .now)) (length ((c .before .before .before .before .before .before .before .before .before .before .before .before .before .before .before .before .before .before .before .before .before .before .before .before .before .args) .errors .now)) = (either (Met ((c .before .before .before .before .before .before .before .before .before .before .before .before .before .before .before .before .before .before .before .before .before .before .before .before .before .args) .s .now) ((c .before .before .before .before .before .before .before .before .before .before .before .before .before .before .before .before .before .before .before .before .before .before .before .before .before .args) .c) (bufs ((c .before .before .before .before .before .before .before .before .before .before .before .before .before .before .before .before .before .before .before .before .before .before .before .before .before .args) .events .now) ((c .before .before .before .before .before .before .before .before .before .before .before .before .before .before .before .before .before .before .before .before .before .before .before .before .before .args) .errors .now) ((c .before .before .before .before .before .before .before .before .before .before .before .before .before .before .before .before .before .before .before .before .before .before .before .before .before .args) .m)) ((c .before .before .before .before .before .before .before .before .before .before .before .match) .events) ((c .before .before .before .before .before .before .before .before .before .before .before .match) .errors) (record { cur = (c .before .before .before .before .before .before .before .before .before .before .before .match) .cur; n = (c .before .before .before .before .before .before .before .before .before .before .before .match) .n }) (length ((c .before .before .before .before .before .before .before .before .before .before .before .before .before .before .before .before .before .before .before .before .before .before .before .before .before .args) .events .now)) (length ((c .before .before .before .before .before .before .before .before .before .before .before .before .before .before .before .before .before .before .before .before .before .before .before .before .before .args) .errors .now))) ((c .before .before .before .before .before .before .before .before .before .before .before .match) .came) (λ w. meet _ (w .2) (w .3) (w .4) (w .5) (before-equals (c .before .before .before .before .before .before .before .before .before .before .before .before .before .before .before .before .before .before .before .before .before .before .before .before .before .pre) ((c .before .before .before .before .before .before .before .before .before .before .before .before .before .before .before .before .before .before .before .opt-whitespace) .ensures) (told-if _ _ _ _ _ _ ((c .before .before .before .before .before .before .before .before .before .before .before .before .next-token-if) .ensures) (w .1 .given .1)), (c .before .before .before .before .before .before .before .before .before .before .before .before .before .before .before .before .before .before .before .opt-whitespace) .kept .1 .1 .1 .0, (c .before .before .before .before .before .before .before .before .before .before .before .before .before .before .before .before .before .before .before .opt-whitespace) .kept .1 .1 .1 .1 .0)) (λ w. meet _ (w .20) (w .21) (w .22) (w .23) (before-dots (c .before .before .before .before .before .before .before .before .before .before .before .before .before .before .before .before .before .before .before .before .before .before .before .before .before .pre) ((c .before .before .before .before .before .before .before .before .before .before .before .before .before .before .before .before .before .before .before .opt-whitespace) .ensures) (w .4 .ensures .goes) (w .13 .ensures), w .13 .kept .1 .1 .1 .0 ∙ w .4 .kept .1 .1 .1 .0 ∙ (c .before .before .before .before .before .before .before .before .before .before .before .before .before .before .before .before .before .before .before .opt-whitespace) .kept .1 .1 .1 .0, w .13 .kept .1 .1 .1 .1 .0 ∙ w .4 .kept .1 .1 .1 .1 .0 ∙ (c .before .before .before .before .before .before .before .before .before .before .before .before .before .before .before .before .before .before .before .opt-whitespace) .kept .1 .1 .1 .1 .0))) in
     record {
-      nested = nested-after (nextTokenIf Kind.Equals (onExpressionKeyValSep ((c .before .before .before .before .before .before .before .before .before .before .before .before .before .before .before .before .before .before .before .before .before .before .before .before .before .args) .levels)) (noEquals ((c .before .before .before .before .before .before .before .before .before .before .before .before .before .before .before .before .before .before .before .before .before .before .before .before .before .args) .message))) (j .0 .goes) (nested-as (sym (next-got _ _ _ _ Kind.Equals (onExpressionKeyValSep ((c .before .before .before .before .before .before .before .before .before .before .before .before .before .before .before .before .before .before .before .before .before .before .before .before .before .args) .levels)) (noEquals ((c .before .before .before .before .before .before .before .before .before .before .before .before .before .before .before .before .before .before .before .before .before .before .before .before .before .args) .message)) (told-if _ _ _ _ _ _ ((c .before .before .before .before .before .before .before .before .before .before .next-token-if2) .ensures) ((c .before .before .before .before .before .before .before .before .step) .given .1)))) (nested-past ((told-if _ _ _ _ _ _ ((c .before .before .before .before .before .before .before .before .before .before .next-token-if2) .ensures) ((c .before .before .before .before .before .before .before .before .step) .given .1)) .1) ((c .before .before .before .before .on-expression-key-val-sep) .ensures)));
+      nested = nested-after (nextTokenIf Kind.Equals (onExpressionKeyValSep ((c .before .before .before .before .before .before .before .before .before .before .before .before .before .before .before .before .before .before .before .before .before .before .before .before .before .args) .settings .levels)) (noEquals ((c .before .before .before .before .before .before .before .before .before .before .before .before .before .before .before .before .before .before .before .before .before .before .before .before .before .args) .message))) (j .0 .goes) (nested-as (sym (next-got _ _ _ _ Kind.Equals (onExpressionKeyValSep ((c .before .before .before .before .before .before .before .before .before .before .before .before .before .before .before .before .before .before .before .before .before .before .before .before .before .args) .settings .levels)) (noEquals ((c .before .before .before .before .before .before .before .before .before .before .before .before .before .before .before .before .before .before .before .before .before .before .before .before .before .args) .message)) (told-if _ _ _ _ _ _ ((c .before .before .before .before .before .before .before .before .before .before .next-token-if2) .ensures) ((c .before .before .before .before .before .before .before .before .step) .given .1)))) (nested-past ((told-if _ _ _ _ _ _ ((c .before .before .before .before .before .before .before .before .before .before .next-token-if2) .ensures) ((c .before .before .before .before .before .before .before .before .step) .given .1)) .1) ((c .before .before .before .before .on-expression-key-val-sep) .ensures)));
       dotted = λ e. omega (arith, j .0 .dotted e, (told-if _ _ _ _ _ _ ((c .before .before .before .before .before .before .before .before .before .before .next-token-if2) .ensures) ((c .before .before .before .before .before .before .before .before .step) .given .1)) .1 .on, (c .before .before .before .before .on-expression-key-val-sep) .ensures .on);
       equalled = λ e. omega (arith, j .0 .goes .on, (told-if _ _ _ _ _ _ ((c .before .before .before .before .before .before .before .before .before .before .next-token-if2) .ensures) ((c .before .before .before .before .before .before .before .before .step) .given .1)) .1 .on, (c .before .before .before .before .on-expression-key-val-sep) .ensures .on);
     }

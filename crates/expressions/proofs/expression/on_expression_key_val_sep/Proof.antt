@@ -25,7 +25,7 @@ same-length-2 : tie.Need-same-length-2
 same-length-2 c = ((c .before .before .before .before .before .before .before .usual-value .kept .1 .1 .1 .1 .1 .0) ∙ (c .before .before .before .before .before .before .before .before .before .before .before .before .before .before .before .before .opt-whitespace .kept .1 .1 .1 .1 .0))
 
 returns : tie.Need-returns
-returns c = nested-item _ _ (λ all. (c .before .before .before .before .before .before .before .before .before .before .before .before .before .before .before .before .before .before .before .before .before .emit) .ensures all _) (nested-stopped ((c .if1) .taken) (nested-stop wsCommentNewline (nested-after (value ((c .before .before .before .before .before .before .before .before .before .before .before .before .before .before .before .before .before .before .before .before .before .before .before .before .before .before .args) .levels)) ((c .before .before .before .before .before .before .before .before .before .before .before .before .before .before .before .before .opt-whitespace) .ensures) ((c .before .before .before .before .before .before .before .usual-value) .ensures)) ((c .if1) .taken)))
+returns c = nested-item _ _ (λ all. (c .before .before .before .before .before .before .before .before .before .before .before .before .before .before .before .before .before .before .before .before .before .emit) .ensures all _) (nested-stopped ((c .if1) .taken) (nested-stop wsCommentNewline (nested-after (value ((c .before .before .before .before .before .before .before .before .before .before .before .before .before .before .before .before .before .before .before .before .before .before .before .before .before .before .args) .settings .levels)) ((c .before .before .before .before .before .before .before .before .before .before .before .before .before .before .before .before .opt-whitespace) .ensures) ((c .before .before .before .before .before .before .before .usual-value) .ensures)) ((c .if1) .taken)))
 
 usual-line-end-requires : tie.Need-usual-line-end-requires
 usual-line-end-requires c κs = (c .before .before .before .before .before .before .before .before .before .usual-value) .ensures .good
@@ -40,7 +40,7 @@ same-length-4 : tie.Need-same-length-4
 same-length-4 c = ((c .before .before .before .before .before .usual-line-end .kept .1 .1 .1 .1 .0) ∙ (c .before .before .before .before .before .before .before .before .before .before .before .before .before .before .before .usual-value .kept .1 .1 .1 .1 .1 .0) ∙ (c .before .before .before .before .before .before .before .before .before .before .before .before .before .before .before .before .before .before .before .before .before .before .before .before .opt-whitespace .kept .1 .1 .1 .1 .0))
 
 returns-2 : tie.Need-returns-2
-returns-2 c = nested-item _ _ (λ all. (c .before .before .before .before .before .before .before .before .before .before .before .before .before .before .before .before .before .before .before .before .before .before .before .before .before .before .before .before .before .emit) .ensures all _) (nested-on wsCommentNewline (nested-after (value ((c .before .before .before .before .before .before .before .before .before .before .before .before .before .before .before .before .before .before .before .before .before .before .before .before .before .before .before .before .before .before .before .before .before .before .args) .levels)) ((c .before .before .before .before .before .before .before .before .before .before .before .before .before .before .before .before .before .before .before .before .before .before .before .before .opt-whitespace) .ensures) ((c .before .before .before .before .before .before .before .before .before .before .before .before .before .before .before .usual-value) .ensures)) ((c .before .before .before .before .before .before .before .before .if1) .left) (nested-same ((c .unstopped) .ensures) (nested-goes ((c .before .before .before .before .before .usual-line-end) .ensures))))
+returns-2 c = nested-item _ _ (λ all. (c .before .before .before .before .before .before .before .before .before .before .before .before .before .before .before .before .before .before .before .before .before .before .before .before .before .before .before .before .before .emit) .ensures all _) (nested-on wsCommentNewline (nested-after (value ((c .before .before .before .before .before .before .before .before .before .before .before .before .before .before .before .before .before .before .before .before .before .before .before .before .before .before .before .before .before .before .before .before .before .before .args) .settings .levels)) ((c .before .before .before .before .before .before .before .before .before .before .before .before .before .before .before .before .before .before .before .before .before .before .before .before .opt-whitespace) .ensures) ((c .before .before .before .before .before .before .before .before .before .before .before .before .before .before .before .usual-value) .ensures)) ((c .before .before .before .before .before .before .before .before .if1) .left) (nested-same ((c .unstopped) .ensures) (nested-goes ((c .before .before .before .before .before .usual-line-end) .ensures))))
 
 pub on-expression-key-val-sep-spec : {M : Type 1} → statement M
 on-expression-key-val-sep-spec =

@@ -6,7 +6,7 @@ use Rattle.fitting.proofs.theorems.fits_then_quiet.Statement.{statement
 use Rattle.fitting.proofs.theorems.fits_then_quiet.Tie as tie
 
 returns : tie.Need-returns
-returns c = roomy-fits-quiet (c .args .s .now) (c .args .base) (c .args .events .now) (c .args .errors .now) (single-line-iff documentEntry (c .args .s .now) (c .args .base) (c .args .events .now) (c .args .errors .now))
+returns c = λ options. roomy-fits-quiet options (c .args .s .now) (c .args .base) (c .args .events .now) (c .args .errors .now) (single-line-iff options documentEntry (c .args .s .now) (c .args .base) (c .args .events .now) (c .args .errors .now))
 
 pub fits-then-quiet-spec : {M : Type 1} → statement M
 fits-then-quiet-spec = tie.close (tie.spec returns)

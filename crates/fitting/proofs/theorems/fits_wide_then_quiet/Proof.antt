@@ -6,7 +6,7 @@ use Rattle.fitting.proofs.theorems.fits_wide_then_quiet.Statement.{stat
 use Rattle.fitting.proofs.theorems.fits_wide_then_quiet.Tie as tie
 
 returns : tie.Need-returns
-returns c = roomy-fits-quiet (c .args .s .now) (c .args .base) (c .args .events .now) (c .args .errors .now) (quiet-iff documentEntry (c .args .s .now) (c .args .base) (c .args .events .now) (c .args .errors .now))
+returns c = λ options. roomy-fits-quiet options (c .args .s .now) (c .args .base) (c .args .events .now) (c .args .errors .now) (quiet-iff options documentEntry (c .args .s .now) (c .args .base) (c .args .events .now) (c .args .errors .now))
 
 pub fits-wide-then-quiet-spec : {M : Type 1} → statement M
 fits-wide-then-quiet-spec = tie.close (tie.spec returns)

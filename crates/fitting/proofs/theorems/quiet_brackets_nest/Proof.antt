@@ -4,7 +4,7 @@ use Rattle.fitting.proofs.theorems.quiet_brackets_nest.Statement.{state
 use Rattle.fitting.proofs.theorems.quiet_brackets_nest.Tie as tie
 
 returns : tie.Need-returns
-returns c = outcome-nests (c .args .s .now) (c .args .base) (c .args .events .now) (c .args .errors .now)
+returns c = λ options. outcome-nests options (c .args .s .now) (c .args .base) (c .args .events .now) (c .args .errors .now)
 
 pub quiet-brackets-nest-spec : {M : Type 1} → statement M
 quiet-brackets-nest-spec = tie.close (tie.spec returns)

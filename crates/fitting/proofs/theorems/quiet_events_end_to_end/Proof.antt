@@ -4,7 +4,7 @@ use Rattle.fitting.proofs.theorems.quiet_events_end_to_end.Statement.{s
 use Rattle.fitting.proofs.theorems.quiet_events_end_to_end.Tie as tie
 
 returns : tie.Need-returns
-returns c = outcome-ends (c .args .s .now) (c .args .base) (c .args .events .now) (c .args .errors .now)
+returns c = λ options. outcome-ends options (c .args .s .now) (c .args .base) (c .args .events .now) (c .args .errors .now)
 
 pub quiet-events-end-to-end-spec : {M : Type 1} → statement M
 quiet-events-end-to-end-spec = tie.close (tie.spec returns)

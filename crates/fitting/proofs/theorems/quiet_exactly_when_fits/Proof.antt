@@ -6,7 +6,7 @@ use Rattle.fitting.proofs.theorems.quiet_exactly_when_fits.Statement.{s
 use Rattle.fitting.proofs.theorems.quiet_exactly_when_fits.Tie as tie
 
 returns : tie.Need-returns
-returns c = outcome-fits (c .args .s .now) (c .args .base) (c .args .events .now) (c .args .errors .now) (single-line-iff documentEntry (c .args .s .now) (c .args .base) (c .args .events .now) (c .args .errors .now))
+returns c = λ options. outcome-fits options (c .args .s .now) (c .args .base) (c .args .events .now) (c .args .errors .now) (single-line-iff options documentEntry (c .args .s .now) (c .args .base) (c .args .events .now) (c .args .errors .now))
 
 pub quiet-exactly-when-fits-spec : {M : Type 1} → statement M
 quiet-exactly-when-fits-spec = tie.close (tie.spec returns)

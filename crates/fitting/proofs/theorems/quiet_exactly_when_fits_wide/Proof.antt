@@ -6,7 +6,7 @@ use Rattle.fitting.proofs.theorems.quiet_exactly_when_fits_wide.Stateme
 use Rattle.fitting.proofs.theorems.quiet_exactly_when_fits_wide.Tie as tie
 
 returns : tie.Need-returns
-returns c = outcome-fits (c .args .s .now) (c .args .base) (c .args .events .now) (c .args .errors .now) (quiet-iff documentEntry (c .args .s .now) (c .args .base) (c .args .events .now) (c .args .errors .now))
+returns c = λ options. outcome-fits options (c .args .s .now) (c .args .base) (c .args .events .now) (c .args .errors .now) (quiet-iff options documentEntry (c .args .s .now) (c .args .base) (c .args .events .now) (c .args .errors .now))
 
 pub quiet-exactly-when-fits-wide-spec : {M : Type 1} → statement M
 quiet-exactly-when-fits-wide-spec = tie.close (tie.spec returns)

@@ -6,7 +6,7 @@ use Rattle.fitting.proofs.theorems.quiet_exactly_when_fits_within.State
 use Rattle.fitting.proofs.theorems.quiet_exactly_when_fits_within.Tie as tie
 
 returns : tie.Need-returns
-returns c = outcome-fits-within (c .args .s .now) (c .args .base) (c .args .events .now) (c .args .errors .now) (single-line-iff documentEntry (c .args .s .now) (c .args .base) (c .args .events .now) (c .args .errors .now))
+returns c = λ options. outcome-fits-within options (c .args .s .now) (c .args .base) (c .args .events .now) (c .args .errors .now) (single-line-iff options documentEntry (c .args .s .now) (c .args .base) (c .args .events .now) (c .args .errors .now))
 
 pub quiet-exactly-when-fits-within-spec : {M : Type 1} → statement M
 quiet-exactly-when-fits-within-spec = tie.close (tie.spec returns)

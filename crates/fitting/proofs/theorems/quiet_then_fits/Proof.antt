@@ -7,7 +7,7 @@ use Rattle.fitting.proofs.theorems.quiet_then_fits.Statement.{statement
 use Rattle.fitting.proofs.theorems.quiet_then_fits.Tie as tie
 
 returns : tie.Need-returns
-returns c = λ g q k. (maxDepth, outcome-then-fits (c .args .s .now) (c .args .base) (c .args .events .now) (c .args .errors .now) (single-line-iff documentEntry (c .args .s .now) (c .args .base) (c .args .events .now) (c .args .errors .now)) g (q, k))
+returns c = λ options g q k. (maxDepth, outcome-then-fits options (c .args .s .now) (c .args .base) (c .args .events .now) (c .args .errors .now) (single-line-iff options documentEntry (c .args .s .now) (c .args .base) (c .args .events .now) (c .args .errors .now)) g (q, k))
 
 pub quiet-then-fits-spec : {M : Type 1} → statement M
 quiet-then-fits-spec = tie.close (tie.spec returns)

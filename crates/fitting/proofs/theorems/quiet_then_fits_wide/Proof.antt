@@ -7,7 +7,7 @@ use Rattle.fitting.proofs.theorems.quiet_then_fits_wide.Statement.{stat
 use Rattle.fitting.proofs.theorems.quiet_then_fits_wide.Tie as tie
 
 returns : tie.Need-returns
-returns c = λ g q. (maxDepth, outcome-then-fits (c .args .s .now) (c .args .base) (c .args .events .now) (c .args .errors .now) (quiet-iff documentEntry (c .args .s .now) (c .args .base) (c .args .events .now) (c .args .errors .now)) g q)
+returns c = λ options g q. (maxDepth, outcome-then-fits options (c .args .s .now) (c .args .base) (c .args .events .now) (c .args .errors .now) (quiet-iff options documentEntry (c .args .s .now) (c .args .base) (c .args .events .now) (c .args .errors .now)) g q)
 
 pub quiet-then-fits-wide-spec : {M : Type 1} → statement M
 quiet-then-fits-wide-spec = tie.close (tie.spec returns)

@@ -9,7 +9,7 @@ quiet-events-determine-tokens-requires : tie.Need-quiet-events-determine-tokens-
 quiet-events-determine-tokens-requires c κs = search needs
 
 returns : tie.Need-returns
-returns c = quiet-indexable ((c .before .before .before .before .args) .s .now) ((c .before .before .before .before .args) .base) ((c .before .before .before .before .args) .events .now) ((c .before .before .before .before .args) .errors .now) ((c .quiet-events-determine-tokens) .ensures)
+returns c = λ options. quiet-indexable options ((c .before .before .before .before .args) .s .now) ((c .before .before .before .before .args) .base) ((c .before .before .before .before .args) .events .now) ((c .before .before .before .before .args) .errors .now) ((c .quiet-events-determine-tokens) .ensures options options)
 
 pub quiet-runs-are-indexable-spec : {M : Type 1} → statement M
 quiet-runs-are-indexable-spec =

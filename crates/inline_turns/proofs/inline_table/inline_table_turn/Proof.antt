@@ -3,6 +3,9 @@
 use mathlib.Core.Path.{refl, _∙_}
 use mathlib.Core.Bool.{false}
 use native.Mathlib.Omega.{arith}
+use Prim.Native.Nat.{suc, _-_}
+use lib.ListN.{length}
+use Rattle.token.specs.Records.{count}
 use Rattle.token.specs.Tokens.{tokensAt}
 use Rattle.rules.specs.declared.inline_table.State.{State}
 use Rattle.rules.specs.Out.{span, done, _▸_}
@@ -12,7 +15,7 @@ use Rattle.rules.specs.InlineTable.{progress, refused, trailing, inlineTableTur
 use Rattle.output.specs.Pour.{bufs}
 use Rattle.output.specs.WalkLaws.{told, told-done, at-end, first-item, first-items, then-goes}
 use Rattle.array_parts.specs.Turning.{unclosedItems}
-use Rattle.inline_turns.proofs.InlineTableLaws.{table-at, action-tells, table-as}
+use Rattle.inline_turns.proofs.InlineTableLaws.{table-at, action-tells, opened-left, brace-left, table-as}
 use borrow.Author.Needs.{needs}
 use Rattle.inline_turns.proofs.inline_table.inline_table_turn.Statement.{statement}
 use Rattle.inline_turns.proofs.inline_table.inline_table_turn.Tie as tie
@@ -41,7 +44,7 @@ same-length-2 c = search needs
 returns : tie.Need-returns
 returns c =
     table-as ((c .over) .ensures) (record {
-      is = λ base q nest loop. at-end _ _ _ _ (inlineTableTurn (span ((c .before .before .before .before .before .before .before .before .before .before .before .before .before .before .args) .head .start) ((c .before .before .before .before .before .before .before .before .before .before .before .before .before .before .args) .head .end)) nest loop ((c .before .before .before .before .before .before .before .before .before .before .before .before .before .before .args) .p)) (λ ts. unclosedItems message.unclosedInlineTable expected.closeCurly (span ((c .before .before .before .before .before .before .before .before .before .before .before .before .before .before .args) .head .start) ((c .before .before .before .before .before .before .before .before .before .before .before .before .before .before .args) .head .end)) ▸ done ts) (told-done _ _ _ ((c .before .before .before .before .before .before .before .before .before .before .next) .ensures) ((c .before .before .before .before .before .before .before .before .enum-told) .given .1)) refl ∙ first-items _ (unclosedItems message.unclosedInlineTable expected.closeCurly (span ((c .before .before .before .before .before .before .before .before .before .before .before .before .before .before .args) .head .start) ((c .before .before .before .before .before .before .before .before .before .before .before .before .before .before .args) .head .end))) _ (bufs ((c .before .before .before .before .before .before .before .before .before .before .before .before .before .before .args) .events .now) ((c .before .before .before .before .before .before .before .before .before .before .before .before .before .before .args) .errors .now) ((c .before .before .before .before .before .before .before .before .before .before .before .before .before .before .args) .m)) _ ((c .before .before .before .before .before .unclosed) .ensures base q);
+      is = λ base q nest loop. at-end _ _ _ _ (inlineTableTurn (span ((c .before .before .before .before .before .before .before .before .before .before .before .before .before .before .args) .head .start) ((c .before .before .before .before .before .before .before .before .before .before .before .before .before .before .args) .head .end)) (count ((c .before .before .before .before .before .before .before .before .before .before .before .before .before .before .args) .s .now) - (c .before .before .before .before .before .before .before .before .before .before .before .before .before .before .args) .opened) nest loop ((c .before .before .before .before .before .before .before .before .before .before .before .before .before .before .args) .p)) (λ ts. unclosedItems message.unclosedInlineTable expected.closeCurly (span ((c .before .before .before .before .before .before .before .before .before .before .before .before .before .before .args) .head .start) ((c .before .before .before .before .before .before .before .before .before .before .before .before .before .before .args) .head .end)) ▸ done ts) (told-done _ _ _ ((c .before .before .before .before .before .before .before .before .before .before .next) .ensures) ((c .before .before .before .before .before .before .before .before .enum-told) .given .1)) refl ∙ first-items _ (unclosedItems message.unclosedInlineTable expected.closeCurly (span ((c .before .before .before .before .before .before .before .before .before .before .before .before .before .before .args) .head .start) ((c .before .before .before .before .before .before .before .before .before .before .before .before .before .before .args) .head .end))) _ (bufs ((c .before .before .before .before .before .before .before .before .before .before .before .before .before .before .args) .events .now) ((c .before .before .before .before .before .before .before .before .before .before .before .before .before .before .args) .errors .now) ((c .before .before .before .before .before .before .before .before .before .before .before .before .before .before .args) .m)) _ ((c .before .before .before .before .before .unclosed) .ensures base q);
       good = (c .before .before .before .before .before .before .before .before .before .before .before .before .before .before .pre) .0;
       on = omega arith;
       base = refl;
@@ -222,7 +225,7 @@ enum-told-19 : tie.Need-enum-told-19
 enum-told-19 c = search needs
 
 trailing-comma-requires : tie.Need-trailing-comma-requires
-trailing-comma-requires c κs = (told _ _ _ _ _ ((c .before .before .before .before .before .before .before .next) .ensures) ((c .before .before .before .before .before .step) .given .1)) .good
+trailing-comma-requires c κs = search needs
 
 emit-requires-7 : tie.Need-emit-requires-7
 emit-requires-7 c κs = search needs
@@ -300,7 +303,7 @@ same-length-3 : tie.Need-same-length-3
 same-length-3 c = search needs
 
 returns-2 : tie.Need-returns-2
-returns-2 c = table-as ((c .again) .ensures) (record { is = λ base q nest loop. (table-at _ _ _ _ (told _ _ _ _ _ ((c .before .before .before .before .before .before .before .before .before .before .before .next) .ensures) ((c .before .before .before .before .before .before .before .before .before .step) .given .1)) _ _ ((c .before .before .before .before .before .before .before .before .before .before .before .before .before .before .before .args) .p) ((c .before .before .before .before .before .before .before .action-at) .ensures) ((c .before .before .before .before .before .enum-told2) .given .1) _ _ (span ((c .before .before .before .before .before .before .before .before .before .before .before .before .before .before .before .args) .head .start) ((c .before .before .before .before .before .before .before .before .before .before .before .before .before .before .before .args) .head .end)) nest loop) ∙ ((first-item _ _ _ _ _ (c .before .before .before .emit .ensures _ _))); good = (told _ _ _ _ _ ((c .before .before .before .before .before .before .before .before .before .before .before .next) .ensures) ((c .before .before .before .before .before .before .before .before .before .step) .given .1)) .good; on = omega (arith, (told _ _ _ _ _ ((c .before .before .before .before .before .before .before .before .before .before .before .next) .ensures) ((c .before .before .before .before .before .before .before .before .before .step) .given .1)) .on); base = (told _ _ _ _ _ ((c .before .before .before .before .before .before .before .before .before .before .before .next) .ensures) ((c .before .before .before .before .before .before .before .before .before .step) .given .1)) .base })
+returns-2 c = table-as ((c .again) .ensures) (record { is = λ base q nest loop. (table-at _ _ _ _ (told _ _ _ _ _ ((c .before .before .before .before .before .before .before .before .before .before .before .next) .ensures) ((c .before .before .before .before .before .before .before .before .before .step) .given .1)) _ _ ((c .before .before .before .before .before .before .before .before .before .before .before .before .before .before .before .args) .p) ((c .before .before .before .before .before .before .before .action-at) .ensures) ((c .before .before .before .before .before .enum-told2) .given .1) _ _ (span ((c .before .before .before .before .before .before .before .before .before .before .before .before .before .before .before .args) .head .start) ((c .before .before .before .before .before .before .before .before .before .before .before .before .before .before .before .args) .head .end)) (count ((c .before .before .before .before .before .before .before .before .before .before .before .before .before .before .before .args) .s .now) - (c .before .before .before .before .before .before .before .before .before .before .before .before .before .before .before .args) .opened) nest loop) ∙ ((first-item _ _ _ _ _ (c .before .before .before .emit .ensures _ _))); good = (told _ _ _ _ _ ((c .before .before .before .before .before .before .before .before .before .before .before .next) .ensures) ((c .before .before .before .before .before .before .before .before .before .step) .given .1)) .good; on = omega (arith, (told _ _ _ _ _ ((c .before .before .before .before .before .before .before .before .before .before .before .next) .ensures) ((c .before .before .before .before .before .before .before .before .before .step) .given .1)) .on); base = (told _ _ _ _ _ ((c .before .before .before .before .before .before .before .before .before .before .before .next) .ensures) ((c .before .before .before .before .before .before .before .before .before .step) .given .1)) .base })
 
 same-length-4 : tie.Need-same-length-4
 same-length-4 c = search needs
@@ -311,7 +314,7 @@ same-length-5 c = search needs
 returns-3 : tie.Need-returns-3
 returns-3 c =
     table-as ((c .again2) .ensures) (record {
-      is = λ base q nest loop. (table-at _ _ _ _ (told _ _ _ _ _ ((c .before .before .before .before .before .before .before .before .before .before .before .before .before .before .before .before .before .before .next) .ensures) ((c .before .before .before .before .before .before .before .before .before .before .before .before .before .before .before .before .step) .given .1)) _ _ ((c .before .before .before .before .before .before .before .before .before .before .before .before .before .before .before .before .before .before .before .before .before .before .args) .p) ((c .before .before .before .before .before .before .before .before .before .before .before .before .before .before .action-at) .ensures) ((c .before .before .before .before .before .before .before .before .before .before .before .before .enum-told3) .given .1) _ _ (span ((c .before .before .before .before .before .before .before .before .before .before .before .before .before .before .before .before .before .before .before .before .before .before .args) .head .start) ((c .before .before .before .before .before .before .before .before .before .before .before .before .before .before .before .before .before .before .before .before .before .before .args) .head .end)) nest loop) ∙ ((first-item _ _ _ _ _ (c .before .before .before .before .before .before .before .before .before .before .report-at .ensures _ _))) ∙ then-goes (loop (progress ((c .before .before .before .before .before .before .before .before .before .before .before .before .before .before .before .before .before .before .before .before .before .before .args) .p .state) ((c .before .before .before .before .before .before .before .before .before .before .before .before .before .before .before .before .before .before .before .before .before .before .args) .p .empty))) ((c .before .before .before .before .before .on-comment) .ensures) base ((told _ _ _ _ _ ((c .before .before .before .before .before .before .before .before .before .before .before .before .before .before .before .before .before .before .next) .ensures) ((c .before .before .before .before .before .before .before .before .before .before .before .before .before .before .before .before .step) .given .1)) .base ∙ q);
+      is = λ base q nest loop. (table-at _ _ _ _ (told _ _ _ _ _ ((c .before .before .before .before .before .before .before .before .before .before .before .before .before .before .before .before .before .before .next) .ensures) ((c .before .before .before .before .before .before .before .before .before .before .before .before .before .before .before .before .step) .given .1)) _ _ ((c .before .before .before .before .before .before .before .before .before .before .before .before .before .before .before .before .before .before .before .before .before .before .args) .p) ((c .before .before .before .before .before .before .before .before .before .before .before .before .before .before .action-at) .ensures) ((c .before .before .before .before .before .before .before .before .before .before .before .before .enum-told3) .given .1) _ _ (span ((c .before .before .before .before .before .before .before .before .before .before .before .before .before .before .before .before .before .before .before .before .before .before .args) .head .start) ((c .before .before .before .before .before .before .before .before .before .before .before .before .before .before .before .before .before .before .before .before .before .before .args) .head .end)) (count ((c .before .before .before .before .before .before .before .before .before .before .before .before .before .before .before .before .before .before .before .before .before .before .args) .s .now) - (c .before .before .before .before .before .before .before .before .before .before .before .before .before .before .before .before .before .before .before .before .before .before .args) .opened) nest loop) ∙ ((first-item _ _ _ _ _ (c .before .before .before .before .before .before .before .before .before .before .report-at .ensures _ _))) ∙ then-goes (loop (progress ((c .before .before .before .before .before .before .before .before .before .before .before .before .before .before .before .before .before .before .before .before .before .before .args) .p .state) ((c .before .before .before .before .before .before .before .before .before .before .before .before .before .before .before .before .before .before .before .before .before .before .args) .p .empty))) ((c .before .before .before .before .before .on-comment) .ensures) base ((told _ _ _ _ _ ((c .before .before .before .before .before .before .before .before .before .before .before .before .before .before .before .before .before .before .next) .ensures) ((c .before .before .before .before .before .before .before .before .before .before .before .before .before .before .before .before .step) .given .1)) .base ∙ q);
       good = (c .before .before .before .before .before .on-comment) .ensures .good;
       on = omega (arith, (told _ _ _ _ _ ((c .before .before .before .before .before .before .before .before .before .before .before .before .before .before .before .before .before .before .next) .ensures) ((c .before .before .before .before .before .before .before .before .before .before .before .before .before .before .before .before .step) .given .1)) .on, (c .before .before .before .before .before .on-comment) .ensures .on);
       base = (c .before .before .before .before .before .on-comment) .ensures .base ∙ (told _ _ _ _ _ ((c .before .before .before .before .before .before .before .before .before .before .before .before .before .before .before .before .before .before .next) .ensures) ((c .before .before .before .before .before .before .before .before .before .before .before .before .before .before .before .before .step) .given .1)) .base;
@@ -324,7 +327,7 @@ same-length-7 : tie.Need-same-length-7
 same-length-7 c = search needs
 
 returns-4 : tie.Need-returns-4
-returns-4 c = table-as ((c .again3) .ensures) (record { is = λ base q nest loop. (table-at _ _ _ _ (told _ _ _ _ _ ((c .before .before .before .before .before .before .before .before .before .before .before .before .before .before .before .next) .ensures) ((c .before .before .before .before .before .before .before .before .before .before .before .before .before .step) .given .1)) _ _ ((c .before .before .before .before .before .before .before .before .before .before .before .before .before .before .before .before .before .before .before .args) .p) ((c .before .before .before .before .before .before .before .before .before .before .before .action-at) .ensures) ((c .before .before .before .before .before .before .before .before .before .enum-told4) .given .1) _ _ (span ((c .before .before .before .before .before .before .before .before .before .before .before .before .before .before .before .before .before .before .before .args) .head .start) ((c .before .before .before .before .before .before .before .before .before .before .before .before .before .before .before .before .before .before .before .args) .head .end)) nest loop) ∙ ((first-item _ _ _ _ _ (c .before .before .before .before .before .before .before .report-at2 .ensures _ _)) ∙ (first-item _ _ _ _ _ (c .before .before .before .emit2 .ensures _ _))); good = (told _ _ _ _ _ ((c .before .before .before .before .before .before .before .before .before .before .before .before .before .before .before .next) .ensures) ((c .before .before .before .before .before .before .before .before .before .before .before .before .before .step) .given .1)) .good; on = omega (arith, (told _ _ _ _ _ ((c .before .before .before .before .before .before .before .before .before .before .before .before .before .before .before .next) .ensures) ((c .before .before .before .before .before .before .before .before .before .before .before .before .before .step) .given .1)) .on); base = (told _ _ _ _ _ ((c .before .before .before .before .before .before .before .before .before .before .before .before .before .before .before .next) .ensures) ((c .before .before .before .before .before .before .before .before .before .before .before .before .before .step) .given .1)) .base })
+returns-4 c = table-as ((c .again3) .ensures) (record { is = λ base q nest loop. (table-at _ _ _ _ (told _ _ _ _ _ ((c .before .before .before .before .before .before .before .before .before .before .before .before .before .before .before .next) .ensures) ((c .before .before .before .before .before .before .before .before .before .before .before .before .before .step) .given .1)) _ _ ((c .before .before .before .before .before .before .before .before .before .before .before .before .before .before .before .before .before .before .before .args) .p) ((c .before .before .before .before .before .before .before .before .before .before .before .action-at) .ensures) ((c .before .before .before .before .before .before .before .before .before .enum-told4) .given .1) _ _ (span ((c .before .before .before .before .before .before .before .before .before .before .before .before .before .before .before .before .before .before .before .args) .head .start) ((c .before .before .before .before .before .before .before .before .before .before .before .before .before .before .before .before .before .before .before .args) .head .end)) (count ((c .before .before .before .before .before .before .before .before .before .before .before .before .before .before .before .before .before .before .before .args) .s .now) - (c .before .before .before .before .before .before .before .before .before .before .before .before .before .before .before .before .before .before .before .args) .opened) nest loop) ∙ ((first-item _ _ _ _ _ (c .before .before .before .before .before .before .before .report-at2 .ensures _ _)) ∙ (first-item _ _ _ _ _ (c .before .before .before .emit2 .ensures _ _))); good = (told _ _ _ _ _ ((c .before .before .before .before .before .before .before .before .before .before .before .before .before .before .before .next) .ensures) ((c .before .before .before .before .before .before .before .before .before .before .before .before .before .step) .given .1)) .good; on = omega (arith, (told _ _ _ _ _ ((c .before .before .before .before .before .before .before .before .before .before .before .before .before .before .before .next) .ensures) ((c .before .before .before .before .before .before .before .before .before .before .before .before .before .step) .given .1)) .on); base = (told _ _ _ _ _ ((c .before .before .before .before .before .before .before .before .before .before .before .before .before .before .before .next) .ensures) ((c .before .before .before .before .before .before .before .before .before .before .before .before .before .step) .given .1)) .base })
 
 same-length-8 : tie.Need-same-length-8
 same-length-8 c = search needs
@@ -333,13 +336,13 @@ same-length-9 : tie.Need-same-length-9
 same-length-9 c = search needs
 
 returns-5 : tie.Need-returns-5
-returns-5 c = table-as ((c .over2) .ensures) (record { is = λ base q nest loop. (table-at _ _ _ _ (told _ _ _ _ _ ((c .before .before .before .before .before .before .before .before .before .before .before .before .before .before .before .next) .ensures) ((c .before .before .before .before .before .before .before .before .before .before .before .before .before .step) .given .1)) _ _ ((c .before .before .before .before .before .before .before .before .before .before .before .before .before .before .before .before .before .before .before .args) .p) ((c .before .before .before .before .before .before .before .before .before .before .before .action-at) .ensures) ((c .before .before .before .before .before .before .before .before .before .enum-told5) .given .1) _ _ (span ((c .before .before .before .before .before .before .before .before .before .before .before .before .before .before .before .before .before .before .before .args) .head .start) ((c .before .before .before .before .before .before .before .before .before .before .before .before .before .before .before .before .before .before .before .args) .head .end)) nest loop) ∙ ((first-item _ _ _ _ _ (c .before .before .before .before .before .before .before .report-at3 .ensures _ _)) ∙ (first-item _ _ _ _ _ (c .before .before .before .emit3 .ensures _ _))); good = (told _ _ _ _ _ ((c .before .before .before .before .before .before .before .before .before .before .before .before .before .before .before .next) .ensures) ((c .before .before .before .before .before .before .before .before .before .before .before .before .before .step) .given .1)) .good; on = omega (arith, (told _ _ _ _ _ ((c .before .before .before .before .before .before .before .before .before .before .before .before .before .before .before .next) .ensures) ((c .before .before .before .before .before .before .before .before .before .before .before .before .before .step) .given .1)) .on); base = (told _ _ _ _ _ ((c .before .before .before .before .before .before .before .before .before .before .before .before .before .before .before .next) .ensures) ((c .before .before .before .before .before .before .before .before .before .before .before .before .before .step) .given .1)) .base })
+returns-5 c = table-as ((c .over2) .ensures) (record { is = λ base q nest loop. (table-at _ _ _ _ (told _ _ _ _ _ ((c .before .before .before .before .before .before .before .before .before .before .before .before .before .before .before .next) .ensures) ((c .before .before .before .before .before .before .before .before .before .before .before .before .before .step) .given .1)) _ _ ((c .before .before .before .before .before .before .before .before .before .before .before .before .before .before .before .before .before .before .before .args) .p) ((c .before .before .before .before .before .before .before .before .before .before .before .action-at) .ensures) ((c .before .before .before .before .before .before .before .before .before .enum-told5) .given .1) _ _ (span ((c .before .before .before .before .before .before .before .before .before .before .before .before .before .before .before .before .before .before .before .args) .head .start) ((c .before .before .before .before .before .before .before .before .before .before .before .before .before .before .before .before .before .before .before .args) .head .end)) (count ((c .before .before .before .before .before .before .before .before .before .before .before .before .before .before .before .before .before .before .before .args) .s .now) - (c .before .before .before .before .before .before .before .before .before .before .before .before .before .before .before .before .before .before .before .args) .opened) nest loop) ∙ ((first-item _ _ _ _ _ (c .before .before .before .before .before .before .before .report-at3 .ensures _ _)) ∙ (first-item _ _ _ _ _ (c .before .before .before .emit3 .ensures _ _))); good = (told _ _ _ _ _ ((c .before .before .before .before .before .before .before .before .before .before .before .before .before .before .before .next) .ensures) ((c .before .before .before .before .before .before .before .before .before .before .before .before .before .step) .given .1)) .good; on = omega (arith, (told _ _ _ _ _ ((c .before .before .before .before .before .before .before .before .before .before .before .before .before .before .before .next) .ensures) ((c .before .before .before .before .before .before .before .before .before .before .before .before .before .step) .given .1)) .on); base = (told _ _ _ _ _ ((c .before .before .before .before .before .before .before .before .before .before .before .before .before .before .before .next) .ensures) ((c .before .before .before .before .before .before .before .before .before .before .before .before .before .step) .given .1)) .base })
 
 same-length-10 : tie.Need-same-length-10
 same-length-10 c = search needs
 
 returns-6 : tie.Need-returns-6
-returns-6 c = table-as ((c .again4) .ensures) (record { is = λ base q nest loop. (table-at _ _ _ _ (told _ _ _ _ _ ((c .before .before .before .before .before .before .before .before .before .before .before .next) .ensures) ((c .before .before .before .before .before .before .before .before .before .step) .given .1)) _ _ ((c .before .before .before .before .before .before .before .before .before .before .before .before .before .before .before .args) .p) ((c .before .before .before .before .before .before .before .action-at) .ensures) ((c .before .before .before .before .before .enum-told6) .given .1) _ _ (span ((c .before .before .before .before .before .before .before .before .before .before .before .before .before .before .before .args) .head .start) ((c .before .before .before .before .before .before .before .before .before .before .before .before .before .before .before .args) .head .end)) nest loop) ∙ ((first-item _ _ _ _ _ (c .before .before .before .emit4 .ensures _ _))); good = (told _ _ _ _ _ ((c .before .before .before .before .before .before .before .before .before .before .before .next) .ensures) ((c .before .before .before .before .before .before .before .before .before .step) .given .1)) .good; on = omega (arith, (told _ _ _ _ _ ((c .before .before .before .before .before .before .before .before .before .before .before .next) .ensures) ((c .before .before .before .before .before .before .before .before .before .step) .given .1)) .on); base = (told _ _ _ _ _ ((c .before .before .before .before .before .before .before .before .before .before .before .next) .ensures) ((c .before .before .before .before .before .before .before .before .before .step) .given .1)) .base })
+returns-6 c = table-as ((c .again4) .ensures) (record { is = λ base q nest loop. (table-at _ _ _ _ (told _ _ _ _ _ ((c .before .before .before .before .before .before .before .before .before .before .before .next) .ensures) ((c .before .before .before .before .before .before .before .before .before .step) .given .1)) _ _ ((c .before .before .before .before .before .before .before .before .before .before .before .before .before .before .before .args) .p) ((c .before .before .before .before .before .before .before .action-at) .ensures) ((c .before .before .before .before .before .enum-told6) .given .1) _ _ (span ((c .before .before .before .before .before .before .before .before .before .before .before .before .before .before .before .args) .head .start) ((c .before .before .before .before .before .before .before .before .before .before .before .before .before .before .before .args) .head .end)) (count ((c .before .before .before .before .before .before .before .before .before .before .before .before .before .before .before .args) .s .now) - (c .before .before .before .before .before .before .before .before .before .before .before .before .before .before .before .args) .opened) nest loop) ∙ ((first-item _ _ _ _ _ (c .before .before .before .emit4 .ensures _ _))); good = (told _ _ _ _ _ ((c .before .before .before .before .before .before .before .before .before .before .before .next) .ensures) ((c .before .before .before .before .before .before .before .before .before .step) .given .1)) .good; on = omega (arith, (told _ _ _ _ _ ((c .before .before .before .before .before .before .before .before .before .before .before .next) .ensures) ((c .before .before .before .before .before .before .before .before .before .step) .given .1)) .on); base = (told _ _ _ _ _ ((c .before .before .before .before .before .before .before .before .before .before .before .next) .ensures) ((c .before .before .before .before .before .before .before .before .before .step) .given .1)) .base })
 
 same-length-11 : tie.Need-same-length-11
 same-length-11 c = search needs
@@ -348,19 +351,19 @@ same-length-12 : tie.Need-same-length-12
 same-length-12 c = search needs
 
 returns-7 : tie.Need-returns-7
-returns-7 c = table-as ((c .again5) .ensures) (record { is = λ base q nest loop. (table-at _ _ _ _ (told _ _ _ _ _ ((c .before .before .before .before .before .before .before .before .before .before .before .before .before .before .next) .ensures) ((c .before .before .before .before .before .before .before .before .before .before .before .before .step) .given .1)) _ _ ((c .before .before .before .before .before .before .before .before .before .before .before .before .before .before .before .before .before .before .args) .p) ((c .before .before .before .before .before .before .before .before .before .before .action-at) .ensures) ((c .before .before .before .before .before .before .before .before .enum-told7) .given .1) _ _ (span ((c .before .before .before .before .before .before .before .before .before .before .before .before .before .before .before .before .before .before .args) .head .start) ((c .before .before .before .before .before .before .before .before .before .before .before .before .before .before .before .before .before .before .args) .head .end)) nest loop) ∙ first-items _ (refused message.extraCommaInInlineTable ((c .before .before .before .before .before .before .before .before .before .before .before .before .before .before .before .before .before .before .args) .p .state) (span ((c .before .before .before .before .before .before .before .before .before .before .before .before .before .before .before .before .before .before .args) .head .start) ((c .before .before .before .before .before .before .before .before .before .before .before .before .before .before .before .before .before .before .args) .head .end)) ((c .before .before .before .before .before .before .before .before .before .before .before .before .step) .given .0 .0 .start) ((c .before .before .before .before .before .before .before .before .before .before .before .before .step) .given .0 .0 .end)) _ (bufs ((c .before .before .before .before .before .before .before .before .before .before .before .before .before .before .before .before .before .before .args) .events .now) ((c .before .before .before .before .before .before .before .before .before .before .before .before .before .before .before .before .before .before .args) .errors .now) ((c .before .before .before .before .before .before .before .before .before .before .before .before .before .before .before .before .before .before .args) .m)) _ ((c .before .before .before .before .before .refuse) .ensures _); good = (told _ _ _ _ _ ((c .before .before .before .before .before .before .before .before .before .before .before .before .before .before .next) .ensures) ((c .before .before .before .before .before .before .before .before .before .before .before .before .step) .given .1)) .good; on = omega (arith, (told _ _ _ _ _ ((c .before .before .before .before .before .before .before .before .before .before .before .before .before .before .next) .ensures) ((c .before .before .before .before .before .before .before .before .before .before .before .before .step) .given .1)) .on); base = (told _ _ _ _ _ ((c .before .before .before .before .before .before .before .before .before .before .before .before .before .before .next) .ensures) ((c .before .before .before .before .before .before .before .before .before .before .before .before .step) .given .1)) .base })
+returns-7 c = table-as ((c .again5) .ensures) (record { is = λ base q nest loop. (table-at _ _ _ _ (told _ _ _ _ _ ((c .before .before .before .before .before .before .before .before .before .before .before .before .before .before .next) .ensures) ((c .before .before .before .before .before .before .before .before .before .before .before .before .step) .given .1)) _ _ ((c .before .before .before .before .before .before .before .before .before .before .before .before .before .before .before .before .before .before .args) .p) ((c .before .before .before .before .before .before .before .before .before .before .action-at) .ensures) ((c .before .before .before .before .before .before .before .before .enum-told7) .given .1) _ _ (span ((c .before .before .before .before .before .before .before .before .before .before .before .before .before .before .before .before .before .before .args) .head .start) ((c .before .before .before .before .before .before .before .before .before .before .before .before .before .before .before .before .before .before .args) .head .end)) (count ((c .before .before .before .before .before .before .before .before .before .before .before .before .before .before .before .before .before .before .args) .s .now) - (c .before .before .before .before .before .before .before .before .before .before .before .before .before .before .before .before .before .before .args) .opened) nest loop) ∙ first-items _ (refused message.extraCommaInInlineTable ((c .before .before .before .before .before .before .before .before .before .before .before .before .before .before .before .before .before .before .args) .p .state) (span ((c .before .before .before .before .before .before .before .before .before .before .before .before .before .before .before .before .before .before .args) .head .start) ((c .before .before .before .before .before .before .before .before .before .before .before .before .before .before .before .before .before .before .args) .head .end)) ((c .before .before .before .before .before .before .before .before .before .before .before .before .step) .given .0 .0 .start) ((c .before .before .before .before .before .before .before .before .before .before .before .before .step) .given .0 .0 .end)) _ (bufs ((c .before .before .before .before .before .before .before .before .before .before .before .before .before .before .before .before .before .before .args) .events .now) ((c .before .before .before .before .before .before .before .before .before .before .before .before .before .before .before .before .before .before .args) .errors .now) ((c .before .before .before .before .before .before .before .before .before .before .before .before .before .before .before .before .before .before .args) .m)) _ ((c .before .before .before .before .before .refuse) .ensures _); good = (told _ _ _ _ _ ((c .before .before .before .before .before .before .before .before .before .before .before .before .before .before .next) .ensures) ((c .before .before .before .before .before .before .before .before .before .before .before .before .step) .given .1)) .good; on = omega (arith, (told _ _ _ _ _ ((c .before .before .before .before .before .before .before .before .before .before .before .before .before .before .next) .ensures) ((c .before .before .before .before .before .before .before .before .before .before .before .before .step) .given .1)) .on); base = (told _ _ _ _ _ ((c .before .before .before .before .before .before .before .before .before .before .before .before .before .before .next) .ensures) ((c .before .before .before .before .before .before .before .before .before .before .before .before .step) .given .1)) .base })
 
 same-length-13 : tie.Need-same-length-13
 same-length-13 c = search needs
 
 returns-8 : tie.Need-returns-8
-returns-8 c = table-as ((c .read) .ensures) (record { is = λ base q nest loop. (table-at _ _ _ _ (told _ _ _ _ _ ((c .before .before .before .before .before .before .before .before .before .before .before .before .before .before .before .next) .ensures) ((c .before .before .before .before .before .before .before .before .before .before .before .before .before .step) .given .1)) _ _ ((c .before .before .before .before .before .before .before .before .before .before .before .before .before .before .before .before .before .before .before .args) .p) ((c .before .before .before .before .before .before .before .before .before .before .before .action-at) .ensures) ((c .before .before .before .before .before .before .before .before .before .enum-told8) .given .1) _ _ (span ((c .before .before .before .before .before .before .before .before .before .before .before .before .before .before .before .before .before .before .before .args) .head .start) ((c .before .before .before .before .before .before .before .before .before .before .before .before .before .before .before .before .before .before .before .args) .head .end)) nest loop) ∙ ((first-item _ _ _ _ _ (c .before .before .before .before .before .before .before .empty-key .ensures _ _)) ∙ (first-item _ _ _ _ _ (c .before .before .before .emit5 .ensures _ _))); good = (told _ _ _ _ _ ((c .before .before .before .before .before .before .before .before .before .before .before .before .before .before .before .next) .ensures) ((c .before .before .before .before .before .before .before .before .before .before .before .before .before .step) .given .1)) .good; on = omega (arith, (told _ _ _ _ _ ((c .before .before .before .before .before .before .before .before .before .before .before .before .before .before .before .next) .ensures) ((c .before .before .before .before .before .before .before .before .before .before .before .before .before .step) .given .1)) .on); base = (told _ _ _ _ _ ((c .before .before .before .before .before .before .before .before .before .before .before .before .before .before .before .next) .ensures) ((c .before .before .before .before .before .before .before .before .before .before .before .before .before .step) .given .1)) .base })
+returns-8 c = table-as ((c .read) .ensures) (record { is = λ base q nest loop. (table-at _ _ _ _ (told _ _ _ _ _ ((c .before .before .before .before .before .before .before .before .before .before .before .before .before .before .before .next) .ensures) ((c .before .before .before .before .before .before .before .before .before .before .before .before .before .step) .given .1)) _ _ ((c .before .before .before .before .before .before .before .before .before .before .before .before .before .before .before .before .before .before .before .args) .p) ((c .before .before .before .before .before .before .before .before .before .before .before .action-at) .ensures) ((c .before .before .before .before .before .before .before .before .before .enum-told8) .given .1) _ _ (span ((c .before .before .before .before .before .before .before .before .before .before .before .before .before .before .before .before .before .before .before .args) .head .start) ((c .before .before .before .before .before .before .before .before .before .before .before .before .before .before .before .before .before .before .before .args) .head .end)) (count ((c .before .before .before .before .before .before .before .before .before .before .before .before .before .before .before .before .before .before .before .args) .s .now) - (c .before .before .before .before .before .before .before .before .before .before .before .before .before .before .before .before .before .before .before .args) .opened) nest loop) ∙ ((first-item _ _ _ _ _ (c .before .before .before .before .before .before .before .empty-key .ensures _ _)) ∙ (first-item _ _ _ _ _ (c .before .before .before .emit5 .ensures _ _))); good = (told _ _ _ _ _ ((c .before .before .before .before .before .before .before .before .before .before .before .before .before .before .before .next) .ensures) ((c .before .before .before .before .before .before .before .before .before .before .before .before .before .step) .given .1)) .good; on = omega (arith, (told _ _ _ _ _ ((c .before .before .before .before .before .before .before .before .before .before .before .before .before .before .before .next) .ensures) ((c .before .before .before .before .before .before .before .before .before .before .before .before .before .step) .given .1)) .on); base = (told _ _ _ _ _ ((c .before .before .before .before .before .before .before .before .before .before .before .before .before .before .before .next) .ensures) ((c .before .before .before .before .before .before .before .before .before .before .before .before .before .step) .given .1)) .base })
 
 same-length-14 : tie.Need-same-length-14
 same-length-14 c = search needs
 
 returns-9 : tie.Need-returns-9
-returns-9 c = table-as ((c .read2) .ensures) (record { is = λ base q nest loop. (table-at _ _ _ _ (told _ _ _ _ _ ((c .before .before .before .before .before .before .before .before .before .before .before .next) .ensures) ((c .before .before .before .before .before .before .before .before .before .step) .given .1)) _ _ ((c .before .before .before .before .before .before .before .before .before .before .before .before .before .before .before .args) .p) ((c .before .before .before .before .before .before .before .action-at) .ensures) ((c .before .before .before .before .before .enum-told9) .given .1) _ _ (span ((c .before .before .before .before .before .before .before .before .before .before .before .before .before .before .before .args) .head .start) ((c .before .before .before .before .before .before .before .before .before .before .before .before .before .before .before .args) .head .end)) nest loop) ∙ ((first-item _ _ _ _ _ (c .before .before .before .emit6 .ensures _ _))); good = (told _ _ _ _ _ ((c .before .before .before .before .before .before .before .before .before .before .before .next) .ensures) ((c .before .before .before .before .before .before .before .before .before .step) .given .1)) .good; on = omega (arith, (told _ _ _ _ _ ((c .before .before .before .before .before .before .before .before .before .before .before .next) .ensures) ((c .before .before .before .before .before .before .before .before .before .step) .given .1)) .on); base = (told _ _ _ _ _ ((c .before .before .before .before .before .before .before .before .before .before .before .next) .ensures) ((c .before .before .before .before .before .before .before .before .before .step) .given .1)) .base })
+returns-9 c = table-as ((c .read2) .ensures) (record { is = λ base q nest loop. (table-at _ _ _ _ (told _ _ _ _ _ ((c .before .before .before .before .before .before .before .before .before .before .before .next) .ensures) ((c .before .before .before .before .before .before .before .before .before .step) .given .1)) _ _ ((c .before .before .before .before .before .before .before .before .before .before .before .before .before .before .before .args) .p) ((c .before .before .before .before .before .before .before .action-at) .ensures) ((c .before .before .before .before .before .enum-told9) .given .1) _ _ (span ((c .before .before .before .before .before .before .before .before .before .before .before .before .before .before .before .args) .head .start) ((c .before .before .before .before .before .before .before .before .before .before .before .before .before .before .before .args) .head .end)) (count ((c .before .before .before .before .before .before .before .before .before .before .before .before .before .before .before .args) .s .now) - (c .before .before .before .before .before .before .before .before .before .before .before .before .before .before .before .args) .opened) nest loop) ∙ ((first-item _ _ _ _ _ (c .before .before .before .emit6 .ensures _ _))); good = (told _ _ _ _ _ ((c .before .before .before .before .before .before .before .before .before .before .before .next) .ensures) ((c .before .before .before .before .before .before .before .before .before .step) .given .1)) .good; on = omega (arith, (told _ _ _ _ _ ((c .before .before .before .before .before .before .before .before .before .before .before .next) .ensures) ((c .before .before .before .before .before .before .before .before .before .step) .given .1)) .on); base = (told _ _ _ _ _ ((c .before .before .before .before .before .before .before .before .before .before .before .next) .ensures) ((c .before .before .before .before .before .before .before .before .before .step) .given .1)) .base })
 
 same-length-15 : tie.Need-same-length-15
 same-length-15 c = search needs
@@ -369,7 +372,7 @@ same-length-16 : tie.Need-same-length-16
 same-length-16 c = search needs
 
 returns-10 : tie.Need-returns-10
-returns-10 c = table-as ((c .again6) .ensures) (record { is = λ base q nest loop. (table-at _ _ _ _ (told _ _ _ _ _ ((c .before .before .before .before .before .before .before .before .before .before .before .before .before .before .next) .ensures) ((c .before .before .before .before .before .before .before .before .before .before .before .before .step) .given .1)) _ _ ((c .before .before .before .before .before .before .before .before .before .before .before .before .before .before .before .before .before .before .args) .p) ((c .before .before .before .before .before .before .before .before .before .before .action-at) .ensures) ((c .before .before .before .before .before .before .before .before .enum-told10) .given .1) _ _ (span ((c .before .before .before .before .before .before .before .before .before .before .before .before .before .before .before .before .before .before .args) .head .start) ((c .before .before .before .before .before .before .before .before .before .before .before .before .before .before .before .before .before .before .args) .head .end)) nest loop) ∙ first-items _ (refused message.extraAssignment ((c .before .before .before .before .before .before .before .before .before .before .before .before .before .before .before .before .before .before .args) .p .state) (span ((c .before .before .before .before .before .before .before .before .before .before .before .before .before .before .before .before .before .before .args) .head .start) ((c .before .before .before .before .before .before .before .before .before .before .before .before .before .before .before .before .before .before .args) .head .end)) ((c .before .before .before .before .before .before .before .before .before .before .before .before .step) .given .0 .0 .start) ((c .before .before .before .before .before .before .before .before .before .before .before .before .step) .given .0 .0 .end)) _ (bufs ((c .before .before .before .before .before .before .before .before .before .before .before .before .before .before .before .before .before .before .args) .events .now) ((c .before .before .before .before .before .before .before .before .before .before .before .before .before .before .before .before .before .before .args) .errors .now) ((c .before .before .before .before .before .before .before .before .before .before .before .before .before .before .before .before .before .before .args) .m)) _ ((c .before .before .before .before .before .refuse2) .ensures _); good = (told _ _ _ _ _ ((c .before .before .before .before .before .before .before .before .before .before .before .before .before .before .next) .ensures) ((c .before .before .before .before .before .before .before .before .before .before .before .before .step) .given .1)) .good; on = omega (arith, (told _ _ _ _ _ ((c .before .before .before .before .before .before .before .before .before .before .before .before .before .before .next) .ensures) ((c .before .before .before .before .before .before .before .before .before .before .before .before .step) .given .1)) .on); base = (told _ _ _ _ _ ((c .before .before .before .before .before .before .before .before .before .before .before .before .before .before .next) .ensures) ((c .before .before .before .before .before .before .before .before .before .before .before .before .step) .given .1)) .base })
+returns-10 c = table-as ((c .again6) .ensures) (record { is = λ base q nest loop. (table-at _ _ _ _ (told _ _ _ _ _ ((c .before .before .before .before .before .before .before .before .before .before .before .before .before .before .next) .ensures) ((c .before .before .before .before .before .before .before .before .before .before .before .before .step) .given .1)) _ _ ((c .before .before .before .before .before .before .before .before .before .before .before .before .before .before .before .before .before .before .args) .p) ((c .before .before .before .before .before .before .before .before .before .before .action-at) .ensures) ((c .before .before .before .before .before .before .before .before .enum-told10) .given .1) _ _ (span ((c .before .before .before .before .before .before .before .before .before .before .before .before .before .before .before .before .before .before .args) .head .start) ((c .before .before .before .before .before .before .before .before .before .before .before .before .before .before .before .before .before .before .args) .head .end)) (count ((c .before .before .before .before .before .before .before .before .before .before .before .before .before .before .before .before .before .before .args) .s .now) - (c .before .before .before .before .before .before .before .before .before .before .before .before .before .before .before .before .before .before .args) .opened) nest loop) ∙ first-items _ (refused message.extraAssignment ((c .before .before .before .before .before .before .before .before .before .before .before .before .before .before .before .before .before .before .args) .p .state) (span ((c .before .before .before .before .before .before .before .before .before .before .before .before .before .before .before .before .before .before .args) .head .start) ((c .before .before .before .before .before .before .before .before .before .before .before .before .before .before .before .before .before .before .args) .head .end)) ((c .before .before .before .before .before .before .before .before .before .before .before .before .step) .given .0 .0 .start) ((c .before .before .before .before .before .before .before .before .before .before .before .before .step) .given .0 .0 .end)) _ (bufs ((c .before .before .before .before .before .before .before .before .before .before .before .before .before .before .before .before .before .before .args) .events .now) ((c .before .before .before .before .before .before .before .before .before .before .before .before .before .before .before .before .before .before .args) .errors .now) ((c .before .before .before .before .before .before .before .before .before .before .before .before .before .before .before .before .before .before .args) .m)) _ ((c .before .before .before .before .before .refuse2) .ensures _); good = (told _ _ _ _ _ ((c .before .before .before .before .before .before .before .before .before .before .before .before .before .before .next) .ensures) ((c .before .before .before .before .before .before .before .before .before .before .before .before .step) .given .1)) .good; on = omega (arith, (told _ _ _ _ _ ((c .before .before .before .before .before .before .before .before .before .before .before .before .before .before .next) .ensures) ((c .before .before .before .before .before .before .before .before .before .before .before .before .step) .given .1)) .on); base = (told _ _ _ _ _ ((c .before .before .before .before .before .before .before .before .before .before .before .before .before .before .next) .ensures) ((c .before .before .before .before .before .before .before .before .before .before .before .before .step) .given .1)) .base })
 
 same-length-17 : tie.Need-same-length-17
 same-length-17 c = search needs
@@ -380,7 +383,7 @@ same-length-18 c = search needs
 returns-11 : tie.Need-returns-11
 returns-11 c =
     table-as ((c .again7) .ensures) (record {
-      is = λ base q nest loop. (table-at _ _ _ _ (told _ _ _ _ _ ((c .before .before .before .before .before .before .before .before .before .before .before .before .before .before .before .before .before .before .before .before .before .next) .ensures) ((c .before .before .before .before .before .before .before .before .before .before .before .before .before .before .before .before .before .before .before .step) .given .1)) _ _ ((c .before .before .before .before .before .before .before .before .before .before .before .before .before .before .before .before .before .before .before .before .before .before .before .before .before .args) .p) ((c .before .before .before .before .before .before .before .before .before .before .before .before .before .before .before .before .before .action-at) .ensures) ((c .before .before .before .before .before .before .before .before .before .before .before .before .before .before .before .enum-told11) .given .1) _ _ (span ((c .before .before .before .before .before .before .before .before .before .before .before .before .before .before .before .before .before .before .before .before .before .before .before .before .before .args) .head .start) ((c .before .before .before .before .before .before .before .before .before .before .before .before .before .before .before .before .before .before .before .before .before .before .before .before .before .args) .head .end)) nest loop) ∙ first-items _ (refused message.missingKeyInInlineTable ((c .before .before .before .before .before .before .before .before .before .before .before .before .before .before .before .before .before .before .before .before .before .before .before .before .before .args) .p .state) (span ((c .before .before .before .before .before .before .before .before .before .before .before .before .before .before .before .before .before .before .before .before .before .before .before .before .before .args) .head .start) ((c .before .before .before .before .before .before .before .before .before .before .before .before .before .before .before .before .before .before .before .before .before .before .before .before .before .args) .head .end)) ((c .before .before .before .before .before .before .before .before .before .before .before .before .before .before .before .before .before .before .before .step) .given .0 .0 .start) ((c .before .before .before .before .before .before .before .before .before .before .before .before .before .before .before .before .before .before .before .step) .given .0 .0 .end)) _ (bufs ((c .before .before .before .before .before .before .before .before .before .before .before .before .before .before .before .before .before .before .before .before .before .before .before .before .before .args) .events .now) ((c .before .before .before .before .before .before .before .before .before .before .before .before .before .before .before .before .before .before .before .before .before .before .before .before .before .args) .errors .now) ((c .before .before .before .before .before .before .before .before .before .before .before .before .before .before .before .before .before .before .before .before .before .before .before .before .before .args) .m)) _ ((c .before .before .before .before .before .before .before .before .before .before .before .before .refuse3) .ensures _) ∙ then-goes (loop (progress ((c .before .before .before .before .before .before .before .before .before .before .before .before .before .before .before .before .before .before .before .before .before .before .before .before .before .args) .p .state) ((c .before .before .before .before .before .before .before .before .before .before .before .before .before .before .before .before .before .before .before .before .before .before .before .before .before .args) .p .empty))) ((c .before .before .before .before .before .ignore-to-value-close) .ensures) base ((told _ _ _ _ _ ((c .before .before .before .before .before .before .before .before .before .before .before .before .before .before .before .before .before .before .before .before .before .next) .ensures) ((c .before .before .before .before .before .before .before .before .before .before .before .before .before .before .before .before .before .before .before .step) .given .1)) .base ∙ q);
+      is = λ base q nest loop. (table-at _ _ _ _ (told _ _ _ _ _ ((c .before .before .before .before .before .before .before .before .before .before .before .before .before .before .before .before .before .before .before .before .before .next) .ensures) ((c .before .before .before .before .before .before .before .before .before .before .before .before .before .before .before .before .before .before .before .step) .given .1)) _ _ ((c .before .before .before .before .before .before .before .before .before .before .before .before .before .before .before .before .before .before .before .before .before .before .before .before .before .args) .p) ((c .before .before .before .before .before .before .before .before .before .before .before .before .before .before .before .before .before .action-at) .ensures) ((c .before .before .before .before .before .before .before .before .before .before .before .before .before .before .before .enum-told11) .given .1) _ _ (span ((c .before .before .before .before .before .before .before .before .before .before .before .before .before .before .before .before .before .before .before .before .before .before .before .before .before .args) .head .start) ((c .before .before .before .before .before .before .before .before .before .before .before .before .before .before .before .before .before .before .before .before .before .before .before .before .before .args) .head .end)) (count ((c .before .before .before .before .before .before .before .before .before .before .before .before .before .before .before .before .before .before .before .before .before .before .before .before .before .args) .s .now) - (c .before .before .before .before .before .before .before .before .before .before .before .before .before .before .before .before .before .before .before .before .before .before .before .before .before .args) .opened) nest loop) ∙ first-items _ (refused message.missingKeyInInlineTable ((c .before .before .before .before .before .before .before .before .before .before .before .before .before .before .before .before .before .before .before .before .before .before .before .before .before .args) .p .state) (span ((c .before .before .before .before .before .before .before .before .before .before .before .before .before .before .before .before .before .before .before .before .before .before .before .before .before .args) .head .start) ((c .before .before .before .before .before .before .before .before .before .before .before .before .before .before .before .before .before .before .before .before .before .before .before .before .before .args) .head .end)) ((c .before .before .before .before .before .before .before .before .before .before .before .before .before .before .before .before .before .before .before .step) .given .0 .0 .start) ((c .before .before .before .before .before .before .before .before .before .before .before .before .before .before .before .before .before .before .before .step) .given .0 .0 .end)) _ (bufs ((c .before .before .before .before .before .before .before .before .before .before .before .before .before .before .before .before .before .before .before .before .before .before .before .before .before .args) .events .now) ((c .before .before .before .before .before .before .before .before .before .before .before .before .before .before .before .before .before .before .before .before .before .before .before .before .before .args) .errors .now) ((c .before .before .before .before .before .before .before .before .before .before .before .before .before .before .before .before .before .before .before .before .before .before .before .before .before .args) .m)) _ ((c .before .before .before .before .before .before .before .before .before .before .before .before .refuse3) .ensures _) ∙ then-goes (loop (progress ((c .before .before .before .before .before .before .before .before .before .before .before .before .before .before .before .before .before .before .before .before .before .before .before .before .before .args) .p .state) ((c .before .before .before .before .before .before .before .before .before .before .before .before .before .before .before .before .before .before .before .before .before .before .before .before .before .args) .p .empty))) ((c .before .before .before .before .before .ignore-to-value-close) .ensures) base ((told _ _ _ _ _ ((c .before .before .before .before .before .before .before .before .before .before .before .before .before .before .before .before .before .before .before .before .before .next) .ensures) ((c .before .before .before .before .before .before .before .before .before .before .before .before .before .before .before .before .before .before .before .step) .given .1)) .base ∙ q);
       good = (c .before .before .before .before .before .ignore-to-value-close) .ensures .good;
       on = omega (arith, (told _ _ _ _ _ ((c .before .before .before .before .before .before .before .before .before .before .before .before .before .before .before .before .before .before .before .before .before .next) .ensures) ((c .before .before .before .before .before .before .before .before .before .before .before .before .before .before .before .before .before .before .before .step) .given .1)) .on, (c .before .before .before .before .before .ignore-to-value-close) .ensures .on);
       base = (c .before .before .before .before .before .ignore-to-value-close) .ensures .base ∙ (told _ _ _ _ _ ((c .before .before .before .before .before .before .before .before .before .before .before .before .before .before .before .before .before .before .before .before .before .next) .ensures) ((c .before .before .before .before .before .before .before .before .before .before .before .before .before .before .before .before .before .before .before .step) .given .1)) .base;
@@ -395,7 +398,7 @@ same-length-20 c = search needs
 returns-12 : tie.Need-returns-12
 returns-12 c =
     table-as ((c .again8) .ensures) (record {
-      is = λ base q nest loop. (table-at _ _ _ _ (told _ _ _ _ _ ((c .before .before .before .before .before .before .before .before .before .before .before .before .before .before .before .before .before .before .before .before .before .next) .ensures) ((c .before .before .before .before .before .before .before .before .before .before .before .before .before .before .before .before .before .before .before .step) .given .1)) _ _ ((c .before .before .before .before .before .before .before .before .before .before .before .before .before .before .before .before .before .before .before .before .before .before .before .before .before .args) .p) ((c .before .before .before .before .before .before .before .before .before .before .before .before .before .before .before .before .before .action-at) .ensures) ((c .before .before .before .before .before .before .before .before .before .before .before .before .before .before .before .enum-told12) .given .1) _ _ (span ((c .before .before .before .before .before .before .before .before .before .before .before .before .before .before .before .before .before .before .before .before .before .before .before .before .before .args) .head .start) ((c .before .before .before .before .before .before .before .before .before .before .before .before .before .before .before .before .before .before .before .before .before .before .before .before .before .args) .head .end)) nest loop) ∙ first-items _ (refused message.missingKeyInInlineTable ((c .before .before .before .before .before .before .before .before .before .before .before .before .before .before .before .before .before .before .before .before .before .before .before .before .before .args) .p .state) (span ((c .before .before .before .before .before .before .before .before .before .before .before .before .before .before .before .before .before .before .before .before .before .before .before .before .before .args) .head .start) ((c .before .before .before .before .before .before .before .before .before .before .before .before .before .before .before .before .before .before .before .before .before .before .before .before .before .args) .head .end)) ((c .before .before .before .before .before .before .before .before .before .before .before .before .before .before .before .before .before .before .before .step) .given .0 .0 .start) ((c .before .before .before .before .before .before .before .before .before .before .before .before .before .before .before .before .before .before .before .step) .given .0 .0 .end)) _ (bufs ((c .before .before .before .before .before .before .before .before .before .before .before .before .before .before .before .before .before .before .before .before .before .before .before .before .before .args) .events .now) ((c .before .before .before .before .before .before .before .before .before .before .before .before .before .before .before .before .before .before .before .before .before .before .before .before .before .args) .errors .now) ((c .before .before .before .before .before .before .before .before .before .before .before .before .before .before .before .before .before .before .before .before .before .before .before .before .before .args) .m)) _ ((c .before .before .before .before .before .before .before .before .before .before .before .before .refuse4) .ensures _) ∙ then-goes (loop (progress ((c .before .before .before .before .before .before .before .before .before .before .before .before .before .before .before .before .before .before .before .before .before .before .before .before .before .args) .p .state) ((c .before .before .before .before .before .before .before .before .before .before .before .before .before .before .before .before .before .before .before .before .before .before .before .before .before .args) .p .empty))) ((c .before .before .before .before .before .ignore-to-value-close2) .ensures) base ((told _ _ _ _ _ ((c .before .before .before .before .before .before .before .before .before .before .before .before .before .before .before .before .before .before .before .before .before .next) .ensures) ((c .before .before .before .before .before .before .before .before .before .before .before .before .before .before .before .before .before .before .before .step) .given .1)) .base ∙ q);
+      is = λ base q nest loop. (table-at _ _ _ _ (told _ _ _ _ _ ((c .before .before .before .before .before .before .before .before .before .before .before .before .before .before .before .before .before .before .before .before .before .next) .ensures) ((c .before .before .before .before .before .before .before .before .before .before .before .before .before .before .before .before .before .before .before .step) .given .1)) _ _ ((c .before .before .before .before .before .before .before .before .before .before .before .before .before .before .before .before .before .before .before .before .before .before .before .before .before .args) .p) ((c .before .before .before .before .before .before .before .before .before .before .before .before .before .before .before .before .before .action-at) .ensures) ((c .before .before .before .before .before .before .before .before .before .before .before .before .before .before .before .enum-told12) .given .1) _ _ (span ((c .before .before .before .before .before .before .before .before .before .before .before .before .before .before .before .before .before .before .before .before .before .before .before .before .before .args) .head .start) ((c .before .before .before .before .before .before .before .before .before .before .before .before .before .before .before .before .before .before .before .before .before .before .before .before .before .args) .head .end)) (count ((c .before .before .before .before .before .before .before .before .before .before .before .before .before .before .before .before .before .before .before .before .before .before .before .before .before .args) .s .now) - (c .before .before .before .before .before .before .before .before .before .before .before .before .before .before .before .before .before .before .before .before .before .before .before .before .before .args) .opened) nest loop) ∙ first-items _ (refused message.missingKeyInInlineTable ((c .before .before .before .before .before .before .before .before .before .before .before .before .before .before .before .before .before .before .before .before .before .before .before .before .before .args) .p .state) (span ((c .before .before .before .before .before .before .before .before .before .before .before .before .before .before .before .before .before .before .before .before .before .before .before .before .before .args) .head .start) ((c .before .before .before .before .before .before .before .before .before .before .before .before .before .before .before .before .before .before .before .before .before .before .before .before .before .args) .head .end)) ((c .before .before .before .before .before .before .before .before .before .before .before .before .before .before .before .before .before .before .before .step) .given .0 .0 .start) ((c .before .before .before .before .before .before .before .before .before .before .before .before .before .before .before .before .before .before .before .step) .given .0 .0 .end)) _ (bufs ((c .before .before .before .before .before .before .before .before .before .before .before .before .before .before .before .before .before .before .before .before .before .before .before .before .before .args) .events .now) ((c .before .before .before .before .before .before .before .before .before .before .before .before .before .before .before .before .before .before .before .before .before .before .before .before .before .args) .errors .now) ((c .before .before .before .before .before .before .before .before .before .before .before .before .before .before .before .before .before .before .before .before .before .before .before .before .before .args) .m)) _ ((c .before .before .before .before .before .before .before .before .before .before .before .before .refuse4) .ensures _) ∙ then-goes (loop (progress ((c .before .before .before .before .before .before .before .before .before .before .before .before .before .before .before .before .before .before .before .before .before .before .before .before .before .args) .p .state) ((c .before .before .before .before .before .before .before .before .before .before .before .before .before .before .before .before .before .before .before .before .before .before .before .before .before .args) .p .empty))) ((c .before .before .before .before .before .ignore-to-value-close2) .ensures) base ((told _ _ _ _ _ ((c .before .before .before .before .before .before .before .before .before .before .before .before .before .before .before .before .before .before .before .before .before .next) .ensures) ((c .before .before .before .before .before .before .before .before .before .before .before .before .before .before .before .before .before .before .before .step) .given .1)) .base ∙ q);
       good = (c .before .before .before .before .before .ignore-to-value-close2) .ensures .good;
       on = omega (arith, (told _ _ _ _ _ ((c .before .before .before .before .before .before .before .before .before .before .before .before .before .before .before .before .before .before .before .before .before .next) .ensures) ((c .before .before .before .before .before .before .before .before .before .before .before .before .before .before .before .before .before .before .before .step) .given .1)) .on, (c .before .before .before .before .before .ignore-to-value-close2) .ensures .on);
       base = (c .before .before .before .before .before .ignore-to-value-close2) .ensures .base ∙ (told _ _ _ _ _ ((c .before .before .before .before .before .before .before .before .before .before .before .before .before .before .before .before .before .before .before .before .before .next) .ensures) ((c .before .before .before .before .before .before .before .before .before .before .before .before .before .before .before .before .before .before .before .step) .given .1)) .base;
@@ -405,13 +408,13 @@ same-length-21 : tie.Need-same-length-21
 same-length-21 c = search needs
 
 returns-13 : tie.Need-returns-13
-returns-13 c = table-as ((c .opening) .ensures) (record { is = λ base q nest loop. (table-at _ _ _ _ (told _ _ _ _ _ ((c .before .before .before .before .before .before .before .before .before .before .before .next) .ensures) ((c .before .before .before .before .before .before .before .before .before .step) .given .1)) _ _ ((c .before .before .before .before .before .before .before .before .before .before .before .before .before .before .before .args) .p) ((c .before .before .before .before .before .before .before .action-at) .ensures) ((c .before .before .before .before .before .enum-told13) .given .1) _ _ (span ((c .before .before .before .before .before .before .before .before .before .before .before .before .before .before .before .args) .head .start) ((c .before .before .before .before .before .before .before .before .before .before .before .before .before .before .before .args) .head .end)) nest loop) ∙ ((first-item _ _ _ _ _ (c .before .before .before .missing .ensures _ _))); good = (told _ _ _ _ _ ((c .before .before .before .before .before .before .before .before .before .before .before .next) .ensures) ((c .before .before .before .before .before .before .before .before .before .step) .given .1)) .good; on = omega (arith, (told _ _ _ _ _ ((c .before .before .before .before .before .before .before .before .before .before .before .next) .ensures) ((c .before .before .before .before .before .before .before .before .before .step) .given .1)) .on); base = (told _ _ _ _ _ ((c .before .before .before .before .before .before .before .before .before .before .before .next) .ensures) ((c .before .before .before .before .before .before .before .before .before .step) .given .1)) .base })
+returns-13 c = table-as ((c .opening) .ensures) (record { is = λ base q nest loop. (table-at _ _ _ _ (told _ _ _ _ _ ((c .before .before .before .before .before .before .before .before .before .before .before .next) .ensures) ((c .before .before .before .before .before .before .before .before .before .step) .given .1)) _ _ ((c .before .before .before .before .before .before .before .before .before .before .before .before .before .before .before .args) .p) ((c .before .before .before .before .before .before .before .action-at) .ensures) ((c .before .before .before .before .before .enum-told13) .given .1) _ _ (span ((c .before .before .before .before .before .before .before .before .before .before .before .before .before .before .before .args) .head .start) ((c .before .before .before .before .before .before .before .before .before .before .before .before .before .before .before .args) .head .end)) (count ((c .before .before .before .before .before .before .before .before .before .before .before .before .before .before .before .args) .s .now) - (c .before .before .before .before .before .before .before .before .before .before .before .before .before .before .before .args) .opened) nest loop) ∙ ((first-item _ _ _ _ _ (c .before .before .before .missing .ensures _ _))); good = (told _ _ _ _ _ ((c .before .before .before .before .before .before .before .before .before .before .before .next) .ensures) ((c .before .before .before .before .before .before .before .before .before .step) .given .1)) .good; on = omega (arith, (told _ _ _ _ _ ((c .before .before .before .before .before .before .before .before .before .before .before .next) .ensures) ((c .before .before .before .before .before .before .before .before .before .step) .given .1)) .on); base = (told _ _ _ _ _ ((c .before .before .before .before .before .before .before .before .before .before .before .next) .ensures) ((c .before .before .before .before .before .before .before .before .before .step) .given .1)) .base })
 
 same-length-22 : tie.Need-same-length-22
 same-length-22 c = search needs
 
 returns-14 : tie.Need-returns-14
-returns-14 c = table-as ((c .opening2) .ensures) (record { is = λ base q nest loop. (table-at _ _ _ _ (told _ _ _ _ _ ((c .before .before .before .before .before .before .before .before .before .before .before .next) .ensures) ((c .before .before .before .before .before .before .before .before .before .step) .given .1)) _ _ ((c .before .before .before .before .before .before .before .before .before .before .before .before .before .before .before .args) .p) ((c .before .before .before .before .before .before .before .action-at) .ensures) ((c .before .before .before .before .before .enum-told14) .given .1) _ _ (span ((c .before .before .before .before .before .before .before .before .before .before .before .before .before .before .before .args) .head .start) ((c .before .before .before .before .before .before .before .before .before .before .before .before .before .before .before .args) .head .end)) nest loop) ∙ ((first-item _ _ _ _ _ (c .before .before .before .missing2 .ensures _ _))); good = (told _ _ _ _ _ ((c .before .before .before .before .before .before .before .before .before .before .before .next) .ensures) ((c .before .before .before .before .before .before .before .before .before .step) .given .1)) .good; on = omega (arith, (told _ _ _ _ _ ((c .before .before .before .before .before .before .before .before .before .before .before .next) .ensures) ((c .before .before .before .before .before .before .before .before .before .step) .given .1)) .on); base = (told _ _ _ _ _ ((c .before .before .before .before .before .before .before .before .before .before .before .next) .ensures) ((c .before .before .before .before .before .before .before .before .before .step) .given .1)) .base })
+returns-14 c = table-as ((c .opening2) .ensures) (record { is = λ base q nest loop. (table-at _ _ _ _ (told _ _ _ _ _ ((c .before .before .before .before .before .before .before .before .before .before .before .next) .ensures) ((c .before .before .before .before .before .before .before .before .before .step) .given .1)) _ _ ((c .before .before .before .before .before .before .before .before .before .before .before .before .before .before .before .args) .p) ((c .before .before .before .before .before .before .before .action-at) .ensures) ((c .before .before .before .before .before .enum-told14) .given .1) _ _ (span ((c .before .before .before .before .before .before .before .before .before .before .before .before .before .before .before .args) .head .start) ((c .before .before .before .before .before .before .before .before .before .before .before .before .before .before .before .args) .head .end)) (count ((c .before .before .before .before .before .before .before .before .before .before .before .before .before .before .before .args) .s .now) - (c .before .before .before .before .before .before .before .before .before .before .before .before .before .before .before .args) .opened) nest loop) ∙ ((first-item _ _ _ _ _ (c .before .before .before .missing2 .ensures _ _))); good = (told _ _ _ _ _ ((c .before .before .before .before .before .before .before .before .before .before .before .next) .ensures) ((c .before .before .before .before .before .before .before .before .before .step) .given .1)) .good; on = omega (arith, (told _ _ _ _ _ ((c .before .before .before .before .before .before .before .before .before .before .before .next) .ensures) ((c .before .before .before .before .before .before .before .before .before .step) .given .1)) .on); base = (told _ _ _ _ _ ((c .before .before .before .before .before .before .before .before .before .before .before .next) .ensures) ((c .before .before .before .before .before .before .before .before .before .step) .given .1)) .base })
 
 same-length-23 : tie.Need-same-length-23
 same-length-23 c = search needs
@@ -422,17 +425,17 @@ same-length-24 c = search needs
 returns-15 : tie.Need-returns-15
 returns-15 c =
     table-as ((c .read3) .ensures) (record {
-      is = λ base q nest loop. (table-at _ _ _ _ (told _ _ _ _ _ ((c .before .before .before .before .before .before .before .before .before .before .before .before .before .before .before .before .before .before .next) .ensures) ((c .before .before .before .before .before .before .before .before .before .before .before .before .before .before .before .before .step) .given .1)) _ _ ((c .before .before .before .before .before .before .before .before .before .before .before .before .before .before .before .before .before .before .before .before .before .before .args) .p) ((c .before .before .before .before .before .before .before .before .before .before .before .before .before .before .action-at) .ensures) ((c .before .before .before .before .before .before .before .before .before .before .before .before .enum-told15) .given .1) _ _ (span ((c .before .before .before .before .before .before .before .before .before .before .before .before .before .before .before .before .before .before .before .before .before .before .args) .head .start) ((c .before .before .before .before .before .before .before .before .before .before .before .before .before .before .before .before .before .before .before .before .before .before .args) .head .end)) nest loop) ∙ ((first-item _ _ _ _ _ (c .before .before .before .before .before .before .before .before .before .before .missing3 .ensures _ _))) ∙ then-goes (loop (progress State.NeedsComma false)) ((c .before .before .before .before .before .on-scalar) .ensures) base ((told _ _ _ _ _ ((c .before .before .before .before .before .before .before .before .before .before .before .before .before .before .before .before .before .before .next) .ensures) ((c .before .before .before .before .before .before .before .before .before .before .before .before .before .before .before .before .step) .given .1)) .base ∙ q);
+      is = λ base q nest loop. (table-at _ _ _ _ (told _ _ _ _ _ ((c .before .before .before .before .before .before .before .before .before .before .before .before .before .before .before .before .before .before .next) .ensures) ((c .before .before .before .before .before .before .before .before .before .before .before .before .before .before .before .before .step) .given .1)) _ _ ((c .before .before .before .before .before .before .before .before .before .before .before .before .before .before .before .before .before .before .before .before .before .before .args) .p) ((c .before .before .before .before .before .before .before .before .before .before .before .before .before .before .action-at) .ensures) ((c .before .before .before .before .before .before .before .before .before .before .before .before .enum-told15) .given .1) _ _ (span ((c .before .before .before .before .before .before .before .before .before .before .before .before .before .before .before .before .before .before .before .before .before .before .args) .head .start) ((c .before .before .before .before .before .before .before .before .before .before .before .before .before .before .before .before .before .before .before .before .before .before .args) .head .end)) (count ((c .before .before .before .before .before .before .before .before .before .before .before .before .before .before .before .before .before .before .before .before .before .before .args) .s .now) - (c .before .before .before .before .before .before .before .before .before .before .before .before .before .before .before .before .before .before .before .before .before .before .args) .opened) nest loop) ∙ ((first-item _ _ _ _ _ (c .before .before .before .before .before .before .before .before .before .before .missing3 .ensures _ _))) ∙ then-goes (loop (progress State.NeedsComma false)) ((c .before .before .before .before .before .on-scalar) .ensures) base ((told _ _ _ _ _ ((c .before .before .before .before .before .before .before .before .before .before .before .before .before .before .before .before .before .before .next) .ensures) ((c .before .before .before .before .before .before .before .before .before .before .before .before .before .before .before .before .step) .given .1)) .base ∙ q);
       good = (c .before .before .before .before .before .on-scalar) .ensures .good;
       on = omega (arith, (told _ _ _ _ _ ((c .before .before .before .before .before .before .before .before .before .before .before .before .before .before .before .before .before .before .next) .ensures) ((c .before .before .before .before .before .before .before .before .before .before .before .before .before .before .before .before .step) .given .1)) .on, (c .before .before .before .before .before .on-scalar) .ensures .on);
       base = (c .before .before .before .before .before .on-scalar) .ensures .base ∙ (told _ _ _ _ _ ((c .before .before .before .before .before .before .before .before .before .before .before .before .before .before .before .before .before .before .next) .ensures) ((c .before .before .before .before .before .before .before .before .before .before .before .before .before .before .before .before .step) .given .1)) .base;
     })
 
 returns-16 : tie.Need-returns-16
-returns-16 c = table-as ((c .opening3) .ensures) (record { is = λ base q nest loop. (table-at _ _ _ _ (told _ _ _ _ _ ((c .before .before .before .before .before .before .before .next) .ensures) ((c .before .before .before .before .before .step) .given .1)) _ _ ((c .before .before .before .before .before .before .before .before .before .before .before .args) .p) ((c .before .before .before .action-at) .ensures) ((c .before .enum-told16) .given .1) _ _ (span ((c .before .before .before .before .before .before .before .before .before .before .before .args) .head .start) ((c .before .before .before .before .before .before .before .before .before .before .before .args) .head .end)) nest loop) ∙ (refl); good = (told _ _ _ _ _ ((c .before .before .before .before .before .before .before .next) .ensures) ((c .before .before .before .before .before .step) .given .1)) .good; on = omega (arith, (told _ _ _ _ _ ((c .before .before .before .before .before .before .before .next) .ensures) ((c .before .before .before .before .before .step) .given .1)) .on); base = (told _ _ _ _ _ ((c .before .before .before .before .before .before .before .next) .ensures) ((c .before .before .before .before .before .step) .given .1)) .base })
+returns-16 c = table-as ((c .opening3) .ensures) (record { is = λ base q nest loop. (table-at _ _ _ _ (told _ _ _ _ _ ((c .before .before .before .before .before .before .before .next) .ensures) ((c .before .before .before .before .before .step) .given .1)) _ _ ((c .before .before .before .before .before .before .before .before .before .before .before .args) .p) ((c .before .before .before .action-at) .ensures) ((c .before .enum-told16) .given .1) _ _ (span ((c .before .before .before .before .before .before .before .before .before .before .before .args) .head .start) ((c .before .before .before .before .before .before .before .before .before .before .before .args) .head .end)) (count ((c .before .before .before .before .before .before .before .before .before .before .before .args) .s .now) - (c .before .before .before .before .before .before .before .before .before .before .before .args) .opened) nest loop) ∙ (refl); good = (told _ _ _ _ _ ((c .before .before .before .before .before .before .before .next) .ensures) ((c .before .before .before .before .before .step) .given .1)) .good; on = omega (arith, (told _ _ _ _ _ ((c .before .before .before .before .before .before .before .next) .ensures) ((c .before .before .before .before .before .step) .given .1)) .on); base = (told _ _ _ _ _ ((c .before .before .before .before .before .before .before .next) .ensures) ((c .before .before .before .before .before .step) .given .1)) .base })
 
 returns-17 : tie.Need-returns-17
-returns-17 c = table-as ((c .opening4) .ensures) (record { is = λ base q nest loop. (table-at _ _ _ _ (told _ _ _ _ _ ((c .before .before .before .before .before .before .before .next) .ensures) ((c .before .before .before .before .before .step) .given .1)) _ _ ((c .before .before .before .before .before .before .before .before .before .before .before .args) .p) ((c .before .before .before .action-at) .ensures) ((c .before .enum-told17) .given .1) _ _ (span ((c .before .before .before .before .before .before .before .before .before .before .before .args) .head .start) ((c .before .before .before .before .before .before .before .before .before .before .before .args) .head .end)) nest loop) ∙ (refl); good = (told _ _ _ _ _ ((c .before .before .before .before .before .before .before .next) .ensures) ((c .before .before .before .before .before .step) .given .1)) .good; on = omega (arith, (told _ _ _ _ _ ((c .before .before .before .before .before .before .before .next) .ensures) ((c .before .before .before .before .before .step) .given .1)) .on); base = (told _ _ _ _ _ ((c .before .before .before .before .before .before .before .next) .ensures) ((c .before .before .before .before .before .step) .given .1)) .base })
+returns-17 c = table-as ((c .opening4) .ensures) (record { is = λ base q nest loop. (table-at _ _ _ _ (told _ _ _ _ _ ((c .before .before .before .before .before .before .before .next) .ensures) ((c .before .before .before .before .before .step) .given .1)) _ _ ((c .before .before .before .before .before .before .before .before .before .before .before .args) .p) ((c .before .before .before .action-at) .ensures) ((c .before .enum-told17) .given .1) _ _ (span ((c .before .before .before .before .before .before .before .before .before .before .before .args) .head .start) ((c .before .before .before .before .before .before .before .before .before .before .before .args) .head .end)) (count ((c .before .before .before .before .before .before .before .before .before .before .before .args) .s .now) - (c .before .before .before .before .before .before .before .before .before .before .before .args) .opened) nest loop) ∙ (refl); good = (told _ _ _ _ _ ((c .before .before .before .before .before .before .before .next) .ensures) ((c .before .before .before .before .before .step) .given .1)) .good; on = omega (arith, (told _ _ _ _ _ ((c .before .before .before .before .before .before .before .next) .ensures) ((c .before .before .before .before .before .step) .given .1)) .on); base = (told _ _ _ _ _ ((c .before .before .before .before .before .before .before .next) .ensures) ((c .before .before .before .before .before .step) .given .1)) .base })
 
 same-length-25 : tie.Need-same-length-25
 same-length-25 c = search needs
@@ -443,7 +446,7 @@ same-length-26 c = search needs
 returns-18 : tie.Need-returns-18
 returns-18 c =
     table-as ((c .read4) .ensures) (record {
-      is = λ base q nest loop. (table-at _ _ _ _ (told _ _ _ _ _ ((c .before .before .before .before .before .before .before .before .before .before .before .before .before .before .next) .ensures) ((c .before .before .before .before .before .before .before .before .before .before .before .before .step) .given .1)) _ _ ((c .before .before .before .before .before .before .before .before .before .before .before .before .before .before .before .before .before .before .args) .p) ((c .before .before .before .before .before .before .before .before .before .before .action-at) .ensures) ((c .before .before .before .before .before .before .before .before .enum-told18) .given .1) _ _ (span ((c .before .before .before .before .before .before .before .before .before .before .before .before .before .before .before .before .before .before .args) .head .start) ((c .before .before .before .before .before .before .before .before .before .before .before .before .before .before .before .before .before .before .args) .head .end)) nest loop) ∙ (refl) ∙ then-goes (loop (progress State.NeedsComma false)) ((c .before .before .before .before .before .on-scalar2) .ensures) base ((told _ _ _ _ _ ((c .before .before .before .before .before .before .before .before .before .before .before .before .before .before .next) .ensures) ((c .before .before .before .before .before .before .before .before .before .before .before .before .step) .given .1)) .base ∙ q);
+      is = λ base q nest loop. (table-at _ _ _ _ (told _ _ _ _ _ ((c .before .before .before .before .before .before .before .before .before .before .before .before .before .before .next) .ensures) ((c .before .before .before .before .before .before .before .before .before .before .before .before .step) .given .1)) _ _ ((c .before .before .before .before .before .before .before .before .before .before .before .before .before .before .before .before .before .before .args) .p) ((c .before .before .before .before .before .before .before .before .before .before .action-at) .ensures) ((c .before .before .before .before .before .before .before .before .enum-told18) .given .1) _ _ (span ((c .before .before .before .before .before .before .before .before .before .before .before .before .before .before .before .before .before .before .args) .head .start) ((c .before .before .before .before .before .before .before .before .before .before .before .before .before .before .before .before .before .before .args) .head .end)) (count ((c .before .before .before .before .before .before .before .before .before .before .before .before .before .before .before .before .before .before .args) .s .now) - (c .before .before .before .before .before .before .before .before .before .before .before .before .before .before .before .before .before .before .args) .opened) nest loop) ∙ (refl) ∙ then-goes (loop (progress State.NeedsComma false)) ((c .before .before .before .before .before .on-scalar2) .ensures) base ((told _ _ _ _ _ ((c .before .before .before .before .before .before .before .before .before .before .before .before .before .before .next) .ensures) ((c .before .before .before .before .before .before .before .before .before .before .before .before .step) .given .1)) .base ∙ q);
       good = (c .before .before .before .before .before .on-scalar2) .ensures .good;
       on = omega (arith, (told _ _ _ _ _ ((c .before .before .before .before .before .before .before .before .before .before .before .before .before .before .next) .ensures) ((c .before .before .before .before .before .before .before .before .before .before .before .before .step) .given .1)) .on, (c .before .before .before .before .before .on-scalar2) .ensures .on);
       base = (c .before .before .before .before .before .on-scalar2) .ensures .base ∙ (told _ _ _ _ _ ((c .before .before .before .before .before .before .before .before .before .before .before .before .before .before .next) .ensures) ((c .before .before .before .before .before .before .before .before .before .before .before .before .step) .given .1)) .base;
@@ -458,7 +461,7 @@ same-length-28 c = search needs
 returns-19 : tie.Need-returns-19
 returns-19 c =
     table-as ((c .over3) .ensures) (record {
-      is = λ base q nest loop. (table-at _ _ _ _ (told _ _ _ _ _ ((c .before .before .before .before .before .before .before .before .before .before .before .before .before .before .before .next) .ensures) ((c .before .before .before .before .before .before .before .before .before .before .before .before .before .step) .given .1)) _ _ ((c .before .before .before .before .before .before .before .before .before .before .before .before .before .before .before .before .before .before .before .args) .p) ((c .before .before .before .before .before .before .before .before .before .before .before .action-at) .ensures) ((c .before .before .before .before .before .before .before .before .before .enum-told19) .given .1) _ _ (span ((c .before .before .before .before .before .before .before .before .before .before .before .before .before .before .before .before .before .before .before .args) .head .start) ((c .before .before .before .before .before .before .before .before .before .before .before .before .before .before .before .before .before .before .before .args) .head .end)) nest loop) ∙ first-items _ (trailing ((c .before .before .before .before .before .before .before .before .before .before .before .before .before .before .before .before .before .before .before .args) .p .empty) ((c .before .before .before .before .before .before .before .before .before .before .before .before .before .before .before .before .before .before .before .args) .p .state) (span ((c .before .before .before .before .before .before .before .before .before .before .before .before .before .before .before .before .before .before .before .args) .head .start) ((c .before .before .before .before .before .before .before .before .before .before .before .before .before .before .before .before .before .before .before .args) .head .end)) ((c .before .before .before .before .before .before .before .before .before .before .before .before .before .step) .given .0 .0 .start) ((c .before .before .before .before .before .before .before .before .before .before .before .before .before .step) .given .0 .0 .end) (tokensAt ((c .before .before .before .before .before .before .before .before .before .before .before .before .before .before .before .before .before .before .before .args) .s .now) ((c .before .before .before .before .before .before .before .before .before .before .before .before .before .step) .given .0 .1 .0))) _ (bufs ((c .before .before .before .before .before .before .before .before .before .before .before .before .before .before .before .before .before .before .before .args) .events .now) ((c .before .before .before .before .before .before .before .before .before .before .before .before .before .before .before .before .before .before .before .args) .errors .now) ((c .before .before .before .before .before .before .before .before .before .before .before .before .before .before .before .before .before .before .before .args) .m)) _ ((c .before .before .before .before .before .before .before .trailing-comma) .ensures base _ ((told _ _ _ _ _ ((c .before .before .before .before .before .before .before .before .before .before .before .before .before .before .before .next) .ensures) ((c .before .before .before .before .before .before .before .before .before .before .before .before .before .step) .given .1)) .base ∙ q)) ∙ ((first-item _ _ _ _ _ (c .before .before .before .emit7 .ensures _ _)));
+      is = λ base q nest loop. (table-at _ _ _ _ (told _ _ _ _ _ ((c .before .before .before .before .before .before .before .before .before .before .before .before .before .before .before .next) .ensures) ((c .before .before .before .before .before .before .before .before .before .before .before .before .before .step) .given .1)) _ _ ((c .before .before .before .before .before .before .before .before .before .before .before .before .before .before .before .before .before .before .before .args) .p) ((c .before .before .before .before .before .before .before .before .before .before .before .action-at) .ensures) ((c .before .before .before .before .before .before .before .before .before .enum-told19) .given .1) _ _ (span ((c .before .before .before .before .before .before .before .before .before .before .before .before .before .before .before .before .before .before .before .args) .head .start) ((c .before .before .before .before .before .before .before .before .before .before .before .before .before .before .before .before .before .before .before .args) .head .end)) (count ((c .before .before .before .before .before .before .before .before .before .before .before .before .before .before .before .before .before .before .before .args) .s .now) - (c .before .before .before .before .before .before .before .before .before .before .before .before .before .before .before .before .before .before .before .args) .opened) nest loop) ∙ first-items _ (trailing ((c .before .before .before .before .before .before .before .before .before .before .before .before .before .before .before .before .before .before .before .args) .p .empty) ((c .before .before .before .before .before .before .before .before .before .before .before .before .before .before .before .before .before .before .before .args) .p .state) (span ((c .before .before .before .before .before .before .before .before .before .before .before .before .before .before .before .before .before .before .before .args) .head .start) ((c .before .before .before .before .before .before .before .before .before .before .before .before .before .before .before .before .before .before .before .args) .head .end)) (count ((c .before .before .before .before .before .before .before .before .before .before .before .before .before .before .before .before .before .before .before .args) .s .now) - (c .before .before .before .before .before .before .before .before .before .before .before .before .before .before .before .before .before .before .before .args) .opened) ((c .before .before .before .before .before .before .before .before .before .before .before .before .before .step) .given .0 .0 .start) (suc (length (tokensAt ((c .before .before .before .before .before .before .before .before .before .before .before .before .before .before .before .before .before .before .before .args) .s .now) ((c .before .before .before .before .before .before .before .before .before .before .before .before .before .step) .given .0 .1 .0))))) _ (bufs ((c .before .before .before .before .before .before .before .before .before .before .before .before .before .before .before .before .before .before .before .args) .events .now) ((c .before .before .before .before .before .before .before .before .before .before .before .before .before .before .before .before .before .before .before .args) .errors .now) ((c .before .before .before .before .before .before .before .before .before .before .before .before .before .before .before .before .before .before .before .args) .m)) _ ((c .before .before .before .before .before .before .before .trailing-comma) .ensures _ _ _ _ (opened-left _ base _ ((c .before .before .before .before .before .before .before .before .before .before .before .before .before .before .before .before .before .before .before .pre) .2)) (brace-left base (told _ _ _ _ _ ((c .before .before .before .before .before .before .before .before .before .before .before .before .before .before .before .next) .ensures) ((c .before .before .before .before .before .before .before .before .before .before .before .before .before .step) .given .1)))) ∙ ((first-item _ _ _ _ _ (c .before .before .before .emit7 .ensures _ _)));
       good = (told _ _ _ _ _ ((c .before .before .before .before .before .before .before .before .before .before .before .before .before .before .before .next) .ensures) ((c .before .before .before .before .before .before .before .before .before .before .before .before .before .step) .given .1)) .good;
       on = omega (arith, (told _ _ _ _ _ ((c .before .before .before .before .before .before .before .before .before .before .before .before .before .before .before .next) .ensures) ((c .before .before .before .before .before .before .before .before .before .before .before .before .before .step) .given .1)) .on);
       base = (told _ _ _ _ _ ((c .before .before .before .before .before .before .before .before .before .before .before .before .before .before .before .next) .ensures) ((c .before .before .before .before .before .before .before .before .before .before .before .before .before .step) .given .1)) .base;
@@ -471,7 +474,7 @@ same-length-30 : tie.Need-same-length-30
 same-length-30 c = search needs
 
 returns-20 : tie.Need-returns-20
-returns-20 c = table-as ((c .again9) .ensures) (record { is = λ base q nest loop. (table-at _ _ _ _ (told _ _ _ _ _ ((c .before .before .before .before .before .before .before .before .before .before .before .before .before .before .next) .ensures) ((c .before .before .before .before .before .before .before .before .before .before .before .before .step) .given .1)) _ _ ((c .before .before .before .before .before .before .before .before .before .before .before .before .before .before .before .before .before .before .args) .p) ((c .before .before .before .before .before .before .before .before .before .before .action-at) .ensures) ((c .before .before .before .before .before .before .before .before .enum-told20) .given .1) _ _ (span ((c .before .before .before .before .before .before .before .before .before .before .before .before .before .before .before .before .before .before .args) .head .start) ((c .before .before .before .before .before .before .before .before .before .before .before .before .before .before .before .before .before .before .args) .head .end)) nest loop) ∙ first-items _ (refused message.invalidInlineTableElement ((c .before .before .before .before .before .before .before .before .before .before .before .before .before .before .before .before .before .before .args) .p .state) (span ((c .before .before .before .before .before .before .before .before .before .before .before .before .before .before .before .before .before .before .args) .head .start) ((c .before .before .before .before .before .before .before .before .before .before .before .before .before .before .before .before .before .before .args) .head .end)) ((c .before .before .before .before .before .before .before .before .before .before .before .before .step) .given .0 .0 .start) ((c .before .before .before .before .before .before .before .before .before .before .before .before .step) .given .0 .0 .end)) _ (bufs ((c .before .before .before .before .before .before .before .before .before .before .before .before .before .before .before .before .before .before .args) .events .now) ((c .before .before .before .before .before .before .before .before .before .before .before .before .before .before .before .before .before .before .args) .errors .now) ((c .before .before .before .before .before .before .before .before .before .before .before .before .before .before .before .before .before .before .args) .m)) _ ((c .before .before .before .before .before .refuse5) .ensures _); good = (told _ _ _ _ _ ((c .before .before .before .before .before .before .before .before .before .before .before .before .before .before .next) .ensures) ((c .before .before .before .before .before .before .before .before .before .before .before .before .step) .given .1)) .good; on = omega (arith, (told _ _ _ _ _ ((c .before .before .before .before .before .before .before .before .before .before .before .before .before .before .next) .ensures) ((c .before .before .before .before .before .before .before .before .before .before .before .before .step) .given .1)) .on); base = (told _ _ _ _ _ ((c .before .before .before .before .before .before .before .before .before .before .before .before .before .before .next) .ensures) ((c .before .before .before .before .before .before .before .before .before .before .before .before .step) .given .1)) .base })
+returns-20 c = table-as ((c .again9) .ensures) (record { is = λ base q nest loop. (table-at _ _ _ _ (told _ _ _ _ _ ((c .before .before .before .before .before .before .before .before .before .before .before .before .before .before .next) .ensures) ((c .before .before .before .before .before .before .before .before .before .before .before .before .step) .given .1)) _ _ ((c .before .before .before .before .before .before .before .before .before .before .before .before .before .before .before .before .before .before .args) .p) ((c .before .before .before .before .before .before .before .before .before .before .action-at) .ensures) ((c .before .before .before .before .before .before .before .before .enum-told20) .given .1) _ _ (span ((c .before .before .before .before .before .before .before .before .before .before .before .before .before .before .before .before .before .before .args) .head .start) ((c .before .before .before .before .before .before .before .before .before .before .before .before .before .before .before .before .before .before .args) .head .end)) (count ((c .before .before .before .before .before .before .before .before .before .before .before .before .before .before .before .before .before .before .args) .s .now) - (c .before .before .before .before .before .before .before .before .before .before .before .before .before .before .before .before .before .before .args) .opened) nest loop) ∙ first-items _ (refused message.invalidInlineTableElement ((c .before .before .before .before .before .before .before .before .before .before .before .before .before .before .before .before .before .before .args) .p .state) (span ((c .before .before .before .before .before .before .before .before .before .before .before .before .before .before .before .before .before .before .args) .head .start) ((c .before .before .before .before .before .before .before .before .before .before .before .before .before .before .before .before .before .before .args) .head .end)) ((c .before .before .before .before .before .before .before .before .before .before .before .before .step) .given .0 .0 .start) ((c .before .before .before .before .before .before .before .before .before .before .before .before .step) .given .0 .0 .end)) _ (bufs ((c .before .before .before .before .before .before .before .before .before .before .before .before .before .before .before .before .before .before .args) .events .now) ((c .before .before .before .before .before .before .before .before .before .before .before .before .before .before .before .before .before .before .args) .errors .now) ((c .before .before .before .before .before .before .before .before .before .before .before .before .before .before .before .before .before .before .args) .m)) _ ((c .before .before .before .before .before .refuse5) .ensures _); good = (told _ _ _ _ _ ((c .before .before .before .before .before .before .before .before .before .before .before .before .before .before .next) .ensures) ((c .before .before .before .before .before .before .before .before .before .before .before .before .step) .given .1)) .good; on = omega (arith, (told _ _ _ _ _ ((c .before .before .before .before .before .before .before .before .before .before .before .before .before .before .next) .ensures) ((c .before .before .before .before .before .before .before .before .before .before .before .before .step) .given .1)) .on); base = (told _ _ _ _ _ ((c .before .before .before .before .before .before .before .before .before .before .before .before .before .before .next) .ensures) ((c .before .before .before .before .before .before .before .before .before .before .before .before .step) .given .1)) .base })
 
 same-length-31 : tie.Need-same-length-31
 same-length-31 c = search needs
@@ -480,7 +483,7 @@ same-length-32 : tie.Need-same-length-32
 same-length-32 c = search needs
 
 returns-21 : tie.Need-returns-21
-returns-21 c = table-as ((c .read5) .ensures) (record { is = λ base q nest loop. (table-at _ _ _ _ (told _ _ _ _ _ ((c .before .before .before .before .before .before .before .before .before .before .before .before .before .before .before .before .before .before .before .next) .ensures) ((c .before .before .before .before .before .before .before .before .before .before .before .before .before .before .before .before .before .step) .given .1)) _ _ ((c .before .before .before .before .before .before .before .before .before .before .before .before .before .before .before .before .before .before .before .before .before .before .before .args) .p) ((c .before .before .before .before .before .before .before .before .before .before .before .before .before .before .before .action-at) .ensures) ((c .before .before .before .before .before .before .before .before .before .before .before .before .before .enum-told21) .given .1) _ _ (span ((c .before .before .before .before .before .before .before .before .before .before .before .before .before .before .before .before .before .before .before .before .before .before .before .args) .head .start) ((c .before .before .before .before .before .before .before .before .before .before .before .before .before .before .before .before .before .before .before .before .before .before .before .args) .head .end)) nest loop) ∙ ((first-item _ _ _ _ _ (c .before .before .before .before .before .before .before .before .before .before .before .report-before .ensures _ _)) ∙ (first-item _ _ _ _ _ (c .before .before .before .before .before .before .before .emit8 .ensures _ _)) ∙ (first-item _ _ _ _ _ (c .before .before .before .emit9 .ensures _ _))); good = (told _ _ _ _ _ ((c .before .before .before .before .before .before .before .before .before .before .before .before .before .before .before .before .before .before .before .next) .ensures) ((c .before .before .before .before .before .before .before .before .before .before .before .before .before .before .before .before .before .step) .given .1)) .good; on = omega (arith, (told _ _ _ _ _ ((c .before .before .before .before .before .before .before .before .before .before .before .before .before .before .before .before .before .before .before .next) .ensures) ((c .before .before .before .before .before .before .before .before .before .before .before .before .before .before .before .before .before .step) .given .1)) .on); base = (told _ _ _ _ _ ((c .before .before .before .before .before .before .before .before .before .before .before .before .before .before .before .before .before .before .before .next) .ensures) ((c .before .before .before .before .before .before .before .before .before .before .before .before .before .before .before .before .before .step) .given .1)) .base })
+returns-21 c = table-as ((c .read5) .ensures) (record { is = λ base q nest loop. (table-at _ _ _ _ (told _ _ _ _ _ ((c .before .before .before .before .before .before .before .before .before .before .before .before .before .before .before .before .before .before .before .next) .ensures) ((c .before .before .before .before .before .before .before .before .before .before .before .before .before .before .before .before .before .step) .given .1)) _ _ ((c .before .before .before .before .before .before .before .before .before .before .before .before .before .before .before .before .before .before .before .before .before .before .before .args) .p) ((c .before .before .before .before .before .before .before .before .before .before .before .before .before .before .before .action-at) .ensures) ((c .before .before .before .before .before .before .before .before .before .before .before .before .before .enum-told21) .given .1) _ _ (span ((c .before .before .before .before .before .before .before .before .before .before .before .before .before .before .before .before .before .before .before .before .before .before .before .args) .head .start) ((c .before .before .before .before .before .before .before .before .before .before .before .before .before .before .before .before .before .before .before .before .before .before .before .args) .head .end)) (count ((c .before .before .before .before .before .before .before .before .before .before .before .before .before .before .before .before .before .before .before .before .before .before .before .args) .s .now) - (c .before .before .before .before .before .before .before .before .before .before .before .before .before .before .before .before .before .before .before .before .before .before .before .args) .opened) nest loop) ∙ ((first-item _ _ _ _ _ (c .before .before .before .before .before .before .before .before .before .before .before .report-before .ensures _ _)) ∙ (first-item _ _ _ _ _ (c .before .before .before .before .before .before .before .emit8 .ensures _ _)) ∙ (first-item _ _ _ _ _ (c .before .before .before .emit9 .ensures _ _))); good = (told _ _ _ _ _ ((c .before .before .before .before .before .before .before .before .before .before .before .before .before .before .before .before .before .before .before .next) .ensures) ((c .before .before .before .before .before .before .before .before .before .before .before .before .before .before .before .before .before .step) .given .1)) .good; on = omega (arith, (told _ _ _ _ _ ((c .before .before .before .before .before .before .before .before .before .before .before .before .before .before .before .before .before .before .before .next) .ensures) ((c .before .before .before .before .before .before .before .before .before .before .before .before .before .before .before .before .before .step) .given .1)) .on); base = (told _ _ _ _ _ ((c .before .before .before .before .before .before .before .before .before .before .before .before .before .before .before .before .before .before .before .next) .ensures) ((c .before .before .before .before .before .before .before .before .before .before .before .before .before .before .before .before .before .step) .given .1)) .base })
 
 same-length-33 : tie.Need-same-length-33
 same-length-33 c = search needs
@@ -491,7 +494,7 @@ same-length-34 c = search needs
 returns-22 : tie.Need-returns-22
 returns-22 c =
     table-as ((c .read6) .ensures) (record {
-      is = λ base q nest loop. (table-at _ _ _ _ (told _ _ _ _ _ ((c .before .before .before .before .before .before .before .before .before .before .before .before .before .before .next) .ensures) ((c .before .before .before .before .before .before .before .before .before .before .before .before .step) .given .1)) _ _ ((c .before .before .before .before .before .before .before .before .before .before .before .before .before .before .before .before .before .before .args) .p) ((c .before .before .before .before .before .before .before .before .before .before .action-at) .ensures) ((c .before .before .before .before .before .before .before .before .enum-told22) .given .1) _ _ (span ((c .before .before .before .before .before .before .before .before .before .before .before .before .before .before .before .before .before .before .args) .head .start) ((c .before .before .before .before .before .before .before .before .before .before .before .before .before .before .before .before .before .before .args) .head .end)) nest loop) ∙ (refl) ∙ then-goes (loop (progress State.NeedsEquals false)) ((c .before .before .before .before .before .table-key) .ensures) base ((told _ _ _ _ _ ((c .before .before .before .before .before .before .before .before .before .before .before .before .before .before .next) .ensures) ((c .before .before .before .before .before .before .before .before .before .before .before .before .step) .given .1)) .base ∙ q);
+      is = λ base q nest loop. (table-at _ _ _ _ (told _ _ _ _ _ ((c .before .before .before .before .before .before .before .before .before .before .before .before .before .before .next) .ensures) ((c .before .before .before .before .before .before .before .before .before .before .before .before .step) .given .1)) _ _ ((c .before .before .before .before .before .before .before .before .before .before .before .before .before .before .before .before .before .before .args) .p) ((c .before .before .before .before .before .before .before .before .before .before .action-at) .ensures) ((c .before .before .before .before .before .before .before .before .enum-told22) .given .1) _ _ (span ((c .before .before .before .before .before .before .before .before .before .before .before .before .before .before .before .before .before .before .args) .head .start) ((c .before .before .before .before .before .before .before .before .before .before .before .before .before .before .before .before .before .before .args) .head .end)) (count ((c .before .before .before .before .before .before .before .before .before .before .before .before .before .before .before .before .before .before .args) .s .now) - (c .before .before .before .before .before .before .before .before .before .before .before .before .before .before .before .before .before .before .args) .opened) nest loop) ∙ (refl) ∙ then-goes (loop (progress State.NeedsEquals false)) ((c .before .before .before .before .before .table-key) .ensures) base ((told _ _ _ _ _ ((c .before .before .before .before .before .before .before .before .before .before .before .before .before .before .next) .ensures) ((c .before .before .before .before .before .before .before .before .before .before .before .before .step) .given .1)) .base ∙ q);
       good = (c .before .before .before .before .before .table-key) .ensures .good;
       on = omega (arith, (told _ _ _ _ _ ((c .before .before .before .before .before .before .before .before .before .before .before .before .before .before .next) .ensures) ((c .before .before .before .before .before .before .before .before .before .before .before .before .step) .given .1)) .on, (c .before .before .before .before .before .table-key) .ensures .on);
       base = (c .before .before .before .before .before .table-key) .ensures .base ∙ (told _ _ _ _ _ ((c .before .before .before .before .before .before .before .before .before .before .before .before .before .before .next) .ensures) ((c .before .before .before .before .before .before .before .before .before .before .before .before .step) .given .1)) .base;
@@ -506,7 +509,7 @@ same-length-36 c = search needs
 returns-23 : tie.Need-returns-23
 returns-23 c =
     table-as ((c .read7) .ensures) (record {
-      is = λ base q nest loop. (table-at _ _ _ _ (told _ _ _ _ _ ((c .before .before .before .before .before .before .before .before .before .before .before .before .before .before .next) .ensures) ((c .before .before .before .before .before .before .before .before .before .before .before .before .step) .given .1)) _ _ ((c .before .before .before .before .before .before .before .before .before .before .before .before .before .before .before .before .before .before .args) .p) ((c .before .before .before .before .before .before .before .before .before .before .action-at) .ensures) ((c .before .before .before .before .before .before .before .before .enum-told23) .given .1) _ _ (span ((c .before .before .before .before .before .before .before .before .before .before .before .before .before .before .before .before .before .before .args) .head .start) ((c .before .before .before .before .before .before .before .before .before .before .before .before .before .before .before .before .before .before .args) .head .end)) nest loop) ∙ (refl) ∙ then-goes (loop (progress State.NeedsEquals false)) ((c .before .before .before .before .before .table-dot) .ensures) base ((told _ _ _ _ _ ((c .before .before .before .before .before .before .before .before .before .before .before .before .before .before .next) .ensures) ((c .before .before .before .before .before .before .before .before .before .before .before .before .step) .given .1)) .base ∙ q);
+      is = λ base q nest loop. (table-at _ _ _ _ (told _ _ _ _ _ ((c .before .before .before .before .before .before .before .before .before .before .before .before .before .before .next) .ensures) ((c .before .before .before .before .before .before .before .before .before .before .before .before .step) .given .1)) _ _ ((c .before .before .before .before .before .before .before .before .before .before .before .before .before .before .before .before .before .before .args) .p) ((c .before .before .before .before .before .before .before .before .before .before .action-at) .ensures) ((c .before .before .before .before .before .before .before .before .enum-told23) .given .1) _ _ (span ((c .before .before .before .before .before .before .before .before .before .before .before .before .before .before .before .before .before .before .args) .head .start) ((c .before .before .before .before .before .before .before .before .before .before .before .before .before .before .before .before .before .before .args) .head .end)) (count ((c .before .before .before .before .before .before .before .before .before .before .before .before .before .before .before .before .before .before .args) .s .now) - (c .before .before .before .before .before .before .before .before .before .before .before .before .before .before .before .before .before .before .args) .opened) nest loop) ∙ (refl) ∙ then-goes (loop (progress State.NeedsEquals false)) ((c .before .before .before .before .before .table-dot) .ensures) base ((told _ _ _ _ _ ((c .before .before .before .before .before .before .before .before .before .before .before .before .before .before .next) .ensures) ((c .before .before .before .before .before .before .before .before .before .before .before .before .step) .given .1)) .base ∙ q);
       good = (c .before .before .before .before .before .table-dot) .ensures .good;
       on = omega (arith, (told _ _ _ _ _ ((c .before .before .before .before .before .before .before .before .before .before .before .before .before .before .next) .ensures) ((c .before .before .before .before .before .before .before .before .before .before .before .before .step) .given .1)) .on, (c .before .before .before .before .before .table-dot) .ensures .on);
       base = (c .before .before .before .before .before .table-dot) .ensures .base ∙ (told _ _ _ _ _ ((c .before .before .before .before .before .before .before .before .before .before .before .before .before .before .next) .ensures) ((c .before .before .before .before .before .before .before .before .before .before .before .before .step) .given .1)) .base;
@@ -521,7 +524,7 @@ same-length-38 c = search needs
 returns-24 : tie.Need-returns-24
 returns-24 c =
     table-as ((c .read8) .ensures) (record {
-      is = λ base q nest loop. (table-at _ _ _ _ (told _ _ _ _ _ ((c .before .before .before .before .before .before .before .before .before .before .before .before .before .before .before .before .before .before .next) .ensures) ((c .before .before .before .before .before .before .before .before .before .before .before .before .before .before .before .before .step) .given .1)) _ _ ((c .before .before .before .before .before .before .before .before .before .before .before .before .before .before .before .before .before .before .before .before .before .before .args) .p) ((c .before .before .before .before .before .before .before .before .before .before .before .before .before .before .action-at) .ensures) ((c .before .before .before .before .before .before .before .before .before .before .before .before .enum-told24) .given .1) _ _ (span ((c .before .before .before .before .before .before .before .before .before .before .before .before .before .before .before .before .before .before .before .before .before .before .args) .head .start) ((c .before .before .before .before .before .before .before .before .before .before .before .before .before .before .before .before .before .before .before .before .before .before .args) .head .end)) nest loop) ∙ ((first-item _ _ _ _ _ (c .before .before .before .before .before .before .before .before .before .before .missing4 .ensures _ _))) ∙ then-goes (loop (progress State.NeedsEquals false)) ((c .before .before .before .before .before .table-key2) .ensures) base ((told _ _ _ _ _ ((c .before .before .before .before .before .before .before .before .before .before .before .before .before .before .before .before .before .before .next) .ensures) ((c .before .before .before .before .before .before .before .before .before .before .before .before .before .before .before .before .step) .given .1)) .base ∙ q);
+      is = λ base q nest loop. (table-at _ _ _ _ (told _ _ _ _ _ ((c .before .before .before .before .before .before .before .before .before .before .before .before .before .before .before .before .before .before .next) .ensures) ((c .before .before .before .before .before .before .before .before .before .before .before .before .before .before .before .before .step) .given .1)) _ _ ((c .before .before .before .before .before .before .before .before .before .before .before .before .before .before .before .before .before .before .before .before .before .before .args) .p) ((c .before .before .before .before .before .before .before .before .before .before .before .before .before .before .action-at) .ensures) ((c .before .before .before .before .before .before .before .before .before .before .before .before .enum-told24) .given .1) _ _ (span ((c .before .before .before .before .before .before .before .before .before .before .before .before .before .before .before .before .before .before .before .before .before .before .args) .head .start) ((c .before .before .before .before .before .before .before .before .before .before .before .before .before .before .before .before .before .before .before .before .before .before .args) .head .end)) (count ((c .before .before .before .before .before .before .before .before .before .before .before .before .before .before .before .before .before .before .before .before .before .before .args) .s .now) - (c .before .before .before .before .before .before .before .before .before .before .before .before .before .before .before .before .before .before .before .before .before .before .args) .opened) nest loop) ∙ ((first-item _ _ _ _ _ (c .before .before .before .before .before .before .before .before .before .before .missing4 .ensures _ _))) ∙ then-goes (loop (progress State.NeedsEquals false)) ((c .before .before .before .before .before .table-key2) .ensures) base ((told _ _ _ _ _ ((c .before .before .before .before .before .before .before .before .before .before .before .before .before .before .before .before .before .before .next) .ensures) ((c .before .before .before .before .before .before .before .before .before .before .before .before .before .before .before .before .step) .given .1)) .base ∙ q);
       good = (c .before .before .before .before .before .table-key2) .ensures .good;
       on = omega (arith, (told _ _ _ _ _ ((c .before .before .before .before .before .before .before .before .before .before .before .before .before .before .before .before .before .before .next) .ensures) ((c .before .before .before .before .before .before .before .before .before .before .before .before .before .before .before .before .step) .given .1)) .on, (c .before .before .before .before .before .table-key2) .ensures .on);
       base = (c .before .before .before .before .before .table-key2) .ensures .base ∙ (told _ _ _ _ _ ((c .before .before .before .before .before .before .before .before .before .before .before .before .before .before .before .before .before .before .next) .ensures) ((c .before .before .before .before .before .before .before .before .before .before .before .before .before .before .before .before .step) .given .1)) .base;
@@ -536,7 +539,7 @@ same-length-40 c = search needs
 returns-25 : tie.Need-returns-25
 returns-25 c =
     table-as ((c .read9) .ensures) (record {
-      is = λ base q nest loop. (table-at _ _ _ _ (told _ _ _ _ _ ((c .before .before .before .before .before .before .before .before .before .before .before .before .before .before .before .before .before .before .next) .ensures) ((c .before .before .before .before .before .before .before .before .before .before .before .before .before .before .before .before .step) .given .1)) _ _ ((c .before .before .before .before .before .before .before .before .before .before .before .before .before .before .before .before .before .before .before .before .before .before .args) .p) ((c .before .before .before .before .before .before .before .before .before .before .before .before .before .before .action-at) .ensures) ((c .before .before .before .before .before .before .before .before .before .before .before .before .enum-told25) .given .1) _ _ (span ((c .before .before .before .before .before .before .before .before .before .before .before .before .before .before .before .before .before .before .before .before .before .before .args) .head .start) ((c .before .before .before .before .before .before .before .before .before .before .before .before .before .before .before .before .before .before .before .before .before .before .args) .head .end)) nest loop) ∙ ((first-item _ _ _ _ _ (c .before .before .before .before .before .before .before .before .before .before .missing5 .ensures _ _))) ∙ then-goes (loop (progress State.NeedsEquals false)) ((c .before .before .before .before .before .table-dot2) .ensures) base ((told _ _ _ _ _ ((c .before .before .before .before .before .before .before .before .before .before .before .before .before .before .before .before .before .before .next) .ensures) ((c .before .before .before .before .before .before .before .before .before .before .before .before .before .before .before .before .step) .given .1)) .base ∙ q);
+      is = λ base q nest loop. (table-at _ _ _ _ (told _ _ _ _ _ ((c .before .before .before .before .before .before .before .before .before .before .before .before .before .before .before .before .before .before .next) .ensures) ((c .before .before .before .before .before .before .before .before .before .before .before .before .before .before .before .before .step) .given .1)) _ _ ((c .before .before .before .before .before .before .before .before .before .before .before .before .before .before .before .before .before .before .before .before .before .before .args) .p) ((c .before .before .before .before .before .before .before .before .before .before .before .before .before .before .action-at) .ensures) ((c .before .before .before .before .before .before .before .before .before .before .before .before .enum-told25) .given .1) _ _ (span ((c .before .before .before .before .before .before .before .before .before .before .before .before .before .before .before .before .before .before .before .before .before .before .args) .head .start) ((c .before .before .before .before .before .before .before .before .before .before .before .before .before .before .before .before .before .before .before .before .before .before .args) .head .end)) (count ((c .before .before .before .before .before .before .before .before .before .before .before .before .before .before .before .before .before .before .before .before .before .before .args) .s .now) - (c .before .before .before .before .before .before .before .before .before .before .before .before .before .before .before .before .before .before .before .before .before .before .args) .opened) nest loop) ∙ ((first-item _ _ _ _ _ (c .before .before .before .before .before .before .before .before .before .before .missing5 .ensures _ _))) ∙ then-goes (loop (progress State.NeedsEquals false)) ((c .before .before .before .before .before .table-dot2) .ensures) base ((told _ _ _ _ _ ((c .before .before .before .before .before .before .before .before .before .before .before .before .before .before .before .before .before .before .next) .ensures) ((c .before .before .before .before .before .before .before .before .before .before .before .before .before .before .before .before .step) .given .1)) .base ∙ q);
       good = (c .before .before .before .before .before .table-dot2) .ensures .good;
       on = omega (arith, (told _ _ _ _ _ ((c .before .before .before .before .before .before .before .before .before .before .before .before .before .before .before .before .before .before .next) .ensures) ((c .before .before .before .before .before .before .before .before .before .before .before .before .before .before .before .before .step) .given .1)) .on, (c .before .before .before .before .before .table-dot2) .ensures .on);
       base = (c .before .before .before .before .before .table-dot2) .ensures .base ∙ (told _ _ _ _ _ ((c .before .before .before .before .before .before .before .before .before .before .before .before .before .before .before .before .before .before .next) .ensures) ((c .before .before .before .before .before .before .before .before .before .before .before .before .before .before .before .before .step) .given .1)) .base;

@@ -7,10 +7,10 @@ use Rattle.line_numbers.proofs.numbering.number_errors.Statement.{state
 use Rattle.line_numbers.proofs.numbering.number_errors.Tie as tie
 
 number-first-requires : tie.Need-number-first-requires
-number-first-requires c κs = ((c .before .before .before .before .pre) .0, ((c .before .before .before .before .pre) .1, omega arith))
+number-first-requires c κs = ((c .before .before .before .before .pre) .0, ((c .before .before .before .before .pre) .1 .0, ((c .before .before .before .before .pre) .1 .1, omega arith)))
 
 number-first-requires-2 : tie.Need-number-first-requires-2
-number-first-requires-2 c κs = ((c .before .before .before .before .pre) .0, ((c .before .before .before .before .pre) .1, omega arith))
+number-first-requires-2 c κs = ((c .before .before .before .before .pre) .0, ((c .before .before .before .before .pre) .1 .0, ((c .before .before .before .before .pre) .1 .1, omega arith)))
 
 same-length : tie.Need-same-length
 same-length c = search needs

@@ -1,6 +1,6 @@
 -- By the test.
 -- Made by ./proofs from Proof.tmpl: change that.
-use Rattle.line_numbers.proofs.PointLaws.{toward-begun, toward-point}
+use Rattle.line_numbers.specs.PointLaws.{toward-begun, toward-point}
 use borrow.Author.Needs.{needs}
 use Rattle.line_numbers.proofs.points.not_behind.Statement.{statement}
 use Rattle.line_numbers.proofs.points.not_behind.Tie as tie
@@ -9,7 +9,7 @@ first-line-requires : tie.Need-first-line-requires
 first-line-requires c κs = search needs
 
 returns : tie.Need-returns
-returns c = toward-begun _ _ _ _ ((c .before .before .before .before .before .pre) .good .most) ((c .first-line) .ensures)
+returns c = toward-begun _ _ (c .before .before .before .before .before .pre) ((c .first-line) .ensures)
 
 returns-2 : tie.Need-returns-2
 returns-2 c = toward-point _ (c .before .before .before .before .pre) ((c .if1) .left)

@@ -27,54 +27,38 @@ use Rattle.nest.proofs.nest.+on_array_open+on_inline_table_open.Lts-on_
 use Rattle.nest.proofs.nest.on_inline_table_open.Reads as on-inline-table-open
 use Rattle.nest.proofs.nest.on_inline_table_open.Kinds as on-inline-table-open-kinds
 use Rattle.nest.proofs.nest.+on_array_open+on_inline_table_open.Lts-on_inline_table_open as on-inline-table-open-lts
+use Rattle.inline_parts.proofs.actions.action_table.Reads as action-table-reads
 use Rattle.inline_turns.proofs.inline_table.inline_table_turn.Reads as inline-table-turn-reads
 use Rattle.nest.proofs.turns.array_turns.Reads as array-turns-reads
 use Rattle.output.proofs.emitting.emit.Reads as emit-reads
-use Rattle.inline_parts.proofs.actions.action_table.Reads as action-table-reads
 use Rattle.nest.proofs.nest.+on_array_open+on_inline_table_open.{statement}
 use Rattle.nest.proofs.nest.+on_array_open+on_inline_table_open.Tie.{close}
 
 abbrev μ-on-array-open : Measures 3 on-array-open-kinds.ps ℕ
-μ-on-array-open κs a = a .1 .1 .1 .1 .0
+μ-on-array-open κs a = a .1 .1 .1 .1 .0 .levels
 
 abbrev μ-on-inline-table-open : Measures 3 on-inline-table-open-kinds.ps ℕ
-μ-on-inline-table-open κs a = a .1 .1 .1 .1 .0
+μ-on-inline-table-open κs a = a .1 .1 .1 .1 .0 .levels
 
 abbrev on-array-open-at : ℕ → In 3 on-array-open-kinds.ps
-on-array-open-at t =
-    and 3 on-array-open-kinds.ps (is 3 on-array-open-kinds.ps μ-on-array-open t) on-array-open.Pre
+on-array-open-at t = and 3 on-array-open-kinds.ps (is 3 on-array-open-kinds.ps μ-on-array-open t) on-array-open.Pre
 
 abbrev on-array-open-below : ℕ → In 3 on-array-open-kinds.ps
-on-array-open-below t =
-    and
-    3
-    on-array-open-kinds.ps
-    (falls 3 on-array-open-kinds.ps _<_ μ-on-array-open t)
-    on-array-open.Pre
+on-array-open-below t = and 3 on-array-open-kinds.ps (falls 3 on-array-open-kinds.ps _<_ μ-on-array-open t) on-array-open.Pre
 
 abbrev on-inline-table-open-at : ℕ → In 3 on-inline-table-open-kinds.ps
-on-inline-table-open-at t =
-    and
-    3
-    on-inline-table-open-kinds.ps
-    (is 3 on-inline-table-open-kinds.ps μ-on-inline-table-open t)
-    on-inline-table-open.Pre
+on-inline-table-open-at t = and 3 on-inline-table-open-kinds.ps (is 3 on-inline-table-open-kinds.ps μ-on-inline-table-open t) on-inline-table-open.Pre
 
 abbrev on-inline-table-open-below : ℕ → In 3 on-inline-table-open-kinds.ps
-on-inline-table-open-below t =
-    and
-    3
-    on-inline-table-open-kinds.ps
-    (falls 3 on-inline-table-open-kinds.ps _<_ μ-on-inline-table-open t)
-    on-inline-table-open.Pre
+on-inline-table-open-below t = and 3 on-inline-table-open-kinds.ps (falls 3 on-inline-table-open-kinds.ps _<_ μ-on-inline-table-open t) on-inline-table-open.Pre
 
 abbrev on-array-open-Inv-loop : on-array-open-lts.InvT-loop
-on-array-open-Inv-loop s levels events₀ errors₀ n₀ cur₀ state₀ left₀ inner₀ starts₀ ends₀ depth₀ events errors n cur state left inner starts ends depth =
+on-array-open-Inv-loop s events₀ errors₀ levels options n₀ cur₀ state₀ left₀ inner₀ starts₀ ends₀ depth₀ events errors n cur state left inner starts ends depth =
     Stacked s levels (looping (arrayTurn (span (inner₀ .start) (inner₀ .end)) (onOpen left₀)) state₀ (tokensAt s cur₀)) (bufs events₀ errors₀ n₀) cur₀ starts ends depth left (inner .start) (inner .end) state (bufs events errors n) cur
     × (length starts ≡ 16) × (length ends ≡ 16) × (length events ≡ length events₀) × (length errors ≡ length errors₀) × (depth ≤ 16)
 
 abbrev on-array-open-μ-loop : on-array-open-lts.MeasureT-loop
-on-array-open-μ-loop s levels events₀ errors₀ n₀ cur₀ state₀ left₀ inner₀ starts₀ ends₀ depth₀ events errors n cur state left inner starts ends depth = (count s - cur .at) + (count s - cur .at) + depth
+on-array-open-μ-loop s events₀ errors₀ levels options n₀ cur₀ state₀ left₀ inner₀ starts₀ ends₀ depth₀ events errors n cur state left inner starts ends depth = (count s - cur .at) + (count s - cur .at) + depth
 
 on-array-open-returns : (t : ℕ) → on-array-open-lts.Need-returns (
   emit-reads.Asked,
@@ -86,7 +70,7 @@ on-array-open-returns : (t : ℕ) → on-array-open-lts.Need-returns (
   on-inline-table-open-below t,
   on-inline-table-open.Post,
 ) (on-array-open-at t) on-array-open.Post on-array-open-Inv-loop on-array-open-μ-loop
-on-array-open-returns t c = no-level ((c .before .before .before .before .args) .levels) Bracket.Square _ _ _ _ _ _ ((c .if1) .taken) ((c .before .before .before .before .pre) .1)
+on-array-open-returns t c = no-level ((c .before .before .before .before .before .args) .settings .levels) Bracket.Square _ _ _ _ _ _ ((c .if1) .taken) ((c .before .before .before .before .before .pre) .1)
 
 on-array-open-emit-requires : (t : ℕ) → on-array-open-lts.Need-emit-requires (
   emit-reads.Asked,
@@ -122,7 +106,7 @@ on-array-open-loop-holds : (t : ℕ) → on-array-open-lts.Need-loop-holds (
   on-inline-table-open-below t,
   on-inline-table-open.Post,
 ) (on-array-open-at t) on-array-open.Post on-array-open-Inv-loop on-array-open-μ-loop
-on-array-open-loop-holds t c = (stack-begun _ _ _ _ _ _ _ _ _ ((c .before .before .before .before .if1) .left) ((c .before .before .before .before .before .before .before .before .pre) .1), refl, refl, refl, refl, omega arith)
+on-array-open-loop-holds t c = (stack-begun _ _ _ _ _ _ _ _ _ ((c .before .before .before .before .if1) .left) ((c .before .before .before .before .before .before .before .before .before .pre) .1), refl, refl, refl, refl, omega arith)
 
 on-array-open-array-turns-requires : (t : ℕ) → on-array-open-lts.Need-array-turns-requires (
   emit-reads.Asked,
@@ -218,7 +202,7 @@ on-array-open-returns-2 : (t : ℕ) → on-array-open-lts.Need-returns-2 (
   on-inline-table-open-below t,
   on-inline-table-open.Post,
 ) (on-array-open-at t) on-array-open.Post on-array-open-Inv-loop on-array-open-μ-loop
-on-array-open-returns-2 t c = nested-as (open-array ((c .before .before .before .before .before .before .before .before .before .before .before .before .before .before .before .before .before .before .before .before .before .args) .levels) _ _ _ ((c .before .before .before .before .before .before .before .before .before .before .before .before .before .before .before .before .before .if1) .left)) (nested-item _ _ (λ all. (c .before .before .before .before .before .before .before .before .before .before .before .before .before .before .before .emit) .ensures all _) (stack-over ((c .before .before .before .before .before .before .before .before .before .before .before .before .loop) .inv .0) _ ((c .before .before .before .before .before .before .before .before .before .array-turns) .ensures) ((c .before .enum-told2) .given .1) ((c .if2) .taken)))
+on-array-open-returns-2 t c = nested-as (open-array ((c .before .before .before .before .before .before .before .before .before .before .before .before .before .before .before .before .before .before .before .before .before .before .args) .settings .levels) _ _ _ ((c .before .before .before .before .before .before .before .before .before .before .before .before .before .before .before .before .before .if1) .left)) (nested-item _ _ (λ all. (c .before .before .before .before .before .before .before .before .before .before .before .before .before .before .before .emit) .ensures all _) (stack-over ((c .before .before .before .before .before .before .before .before .before .before .before .before .loop) .inv .0) _ ((c .before .before .before .before .before .before .before .before .before .array-turns) .ensures) ((c .before .enum-told2) .given .1) ((c .if2) .taken)))
 
 on-array-open-sub-depth : (t : ℕ) → on-array-open-lts.Need-sub-depth (
   emit-reads.Asked,
@@ -232,7 +216,7 @@ on-array-open-sub-depth : (t : ℕ) → on-array-open-lts.Need-sub-depth (
 ) (on-array-open-at t) on-array-open.Post on-array-open-Inv-loop on-array-open-μ-loop
 on-array-open-sub-depth t c = omega (arith, (c .if2) .left)
 
-on-array-open-add-left : (t : ℕ) → on-array-open-lts.Need-add-left (
+on-array-open-sub-left-2 : (t : ℕ) → on-array-open-lts.Need-sub-left-2 (
   emit-reads.Asked,
   emit-reads.Learnt,
   array-turns-reads.Asked,
@@ -242,9 +226,9 @@ on-array-open-add-left : (t : ℕ) → on-array-open-lts.Need-add-left (
   on-inline-table-open-below t,
   on-inline-table-open.Post,
 ) (on-array-open-at t) on-array-open.Post on-array-open-Inv-loop on-array-open-μ-loop
-on-array-open-add-left t c = record { fits = omega (arith, ((c .before .before .before .before .before .before .before .before .before .before .before .before .loop) .inv .0) .sum, (c .before .before .before .before .before .before .before .before .before .before .before .before .before .before .before .before .before .before .before .before .before .fits) .levels .fits) }
+on-array-open-sub-left-2 t c = omega (arith, ((c .before .before .before .before .before .before .before .before .before .before .before .before .loop) .inv .0) .sum, (c .if2) .left)
 
-on-array-open-mul-t40 : (t : ℕ) → on-array-open-lts.Need-mul-t40 (
+on-array-open-cast-left : (t : ℕ) → on-array-open-lts.Need-cast-left (
   emit-reads.Asked,
   emit-reads.Learnt,
   array-turns-reads.Asked,
@@ -254,7 +238,31 @@ on-array-open-mul-t40 : (t : ℕ) → on-array-open-lts.Need-mul-t40 (
   on-inline-table-open-below t,
   on-inline-table-open.Post,
 ) (on-array-open-at t) on-array-open.Post on-array-open-Inv-loop on-array-open-μ-loop
-on-array-open-mul-t40 t c = record { fits = omega (arith, (c .before .before .before .before .before .before .before .before .before .before .before .before .loop) .inv .5) }
+on-array-open-cast-left t c = omega (arith, (c .before .before .before .before .before .before .before .before .before .before .before .before .loop) .inv .5)
+
+on-array-open-sub-left-3 : (t : ℕ) → on-array-open-lts.Need-sub-left-3 (
+  emit-reads.Asked,
+  emit-reads.Learnt,
+  array-turns-reads.Asked,
+  array-turns-reads.Learnt,
+  on-array-open-below t,
+  on-array-open.Post,
+  on-inline-table-open-below t,
+  on-inline-table-open.Post,
+) (on-array-open-at t) on-array-open.Post on-array-open-Inv-loop on-array-open-μ-loop
+on-array-open-sub-left-3 t c = omega (arith, ((c .before .before .before .before .before .before .before .before .before .before .before .before .loop) .inv .0) .sum, (c .if2) .left)
+
+on-array-open-mul-t46 : (t : ℕ) → on-array-open-lts.Need-mul-t46 (
+  emit-reads.Asked,
+  emit-reads.Learnt,
+  array-turns-reads.Asked,
+  array-turns-reads.Learnt,
+  on-array-open-below t,
+  on-array-open.Post,
+  on-inline-table-open-below t,
+  on-inline-table-open.Post,
+) (on-array-open-at t) on-array-open.Post on-array-open-Inv-loop on-array-open-μ-loop
+on-array-open-mul-t46 t c = record { fits = omega (arith, (c .before .before .before .before .before .before .before .before .before .before .before .before .loop) .inv .5) }
 
 on-array-open-array-read-t43 : (t : ℕ) → on-array-open-lts.Need-array-read-t43 (
   emit-reads.Asked,
@@ -268,7 +276,7 @@ on-array-open-array-read-t43 : (t : ℕ) → on-array-open-lts.Need-array-read-t
 ) (on-array-open-at t) on-array-open.Post on-array-open-Inv-loop on-array-open-μ-loop
 on-array-open-array-read-t43 t c = omega (arith, (c .before .before .before .before .before .before .before .before .before .before .before .before .loop) .inv .5, (c .if2) .left)
 
-on-array-open-mul-t44 : (t : ℕ) → on-array-open-lts.Need-mul-t44 (
+on-array-open-mul-t49 : (t : ℕ) → on-array-open-lts.Need-mul-t49 (
   emit-reads.Asked,
   emit-reads.Learnt,
   array-turns-reads.Asked,
@@ -278,9 +286,9 @@ on-array-open-mul-t44 : (t : ℕ) → on-array-open-lts.Need-mul-t44 (
   on-inline-table-open-below t,
   on-inline-table-open.Post,
 ) (on-array-open-at t) on-array-open.Post on-array-open-Inv-loop on-array-open-μ-loop
-on-array-open-mul-t44 t c = record { fits = omega (arith, (c .before .before .before .before .before .before .before .before .before .before .before .before .loop) .inv .5) }
+on-array-open-mul-t49 t c = record { fits = omega (arith, (c .before .before .before .before .before .before .before .before .before .before .before .before .loop) .inv .5) }
 
-on-array-open-array-read-t47 : (t : ℕ) → on-array-open-lts.Need-array-read-t47 (
+on-array-open-array-read-t44 : (t : ℕ) → on-array-open-lts.Need-array-read-t44 (
   emit-reads.Asked,
   emit-reads.Learnt,
   array-turns-reads.Asked,
@@ -290,7 +298,7 @@ on-array-open-array-read-t47 : (t : ℕ) → on-array-open-lts.Need-array-read-t
   on-inline-table-open-below t,
   on-inline-table-open.Post,
 ) (on-array-open-at t) on-array-open.Post on-array-open-Inv-loop on-array-open-μ-loop
-on-array-open-array-read-t47 t c = omega (arith, (c .before .before .before .before .before .before .before .before .before .before .before .before .loop) .inv .5, (c .if2) .left)
+on-array-open-array-read-t44 t c = omega (arith, (c .before .before .before .before .before .before .before .before .before .before .before .before .loop) .inv .5, (c .if2) .left)
 
 on-array-open-loop-less-2 : (t : ℕ) → on-array-open-lts.Need-loop-less-2 (
   emit-reads.Asked,
@@ -362,7 +370,7 @@ on-array-open-returns-3 : (t : ℕ) → on-array-open-lts.Need-returns-3 (
   on-inline-table-open-below t,
   on-inline-table-open.Post,
 ) (on-array-open-at t) on-array-open.Post on-array-open-Inv-loop on-array-open-μ-loop
-on-array-open-returns-3 t c = nested-as (open-array ((c .before .before .before .before .before .before .before .before .before .before .before .before .before .before .before .before .before .before .before .before .before .before .args) .levels) _ _ _ ((c .before .before .before .before .before .before .before .before .before .before .before .before .before .before .before .before .before .before .if1) .left)) (nested-item _ _ (λ all. (c .before .before .before .before .before .before .before .before .before .before .before .before .before .before .before .before .emit) .ensures all _) (stack-none ((c .before .before .before .before .before .before .before .before .before .before .before .before .before .loop) .inv .0) _ ((c .before .before .before .before .before .before .before .before .before .before .array-turns) .ensures) _ ((c .before .before .x) .given .1) ((c .if3) .taken)))
+on-array-open-returns-3 t c = nested-as (open-array ((c .before .before .before .before .before .before .before .before .before .before .before .before .before .before .before .before .before .before .before .before .before .before .before .args) .settings .levels) _ _ _ ((c .before .before .before .before .before .before .before .before .before .before .before .before .before .before .before .before .before .before .if1) .left)) (nested-item _ _ (λ all. (c .before .before .before .before .before .before .before .before .before .before .before .before .before .before .before .before .emit) .ensures all _) (stack-none ((c .before .before .before .before .before .before .before .before .before .before .before .before .before .loop) .inv .0) _ ((c .before .before .before .before .before .before .before .before .before .before .array-turns) .ensures) _ ((c .before .before .x) .given .1) ((c .if3) .taken)))
 
 on-array-open-mul-starts : (t : ℕ) → on-array-open-lts.Need-mul-starts (
   emit-reads.Asked,
@@ -424,7 +432,7 @@ on-array-open-add-depth : (t : ℕ) → on-array-open-lts.Need-add-depth (
 ) (on-array-open-at t) on-array-open.Post on-array-open-Inv-loop on-array-open-μ-loop
 on-array-open-add-depth t c = search needs
 
-on-array-open-sub-left-2 : (t : ℕ) → on-array-open-lts.Need-sub-left-2 (
+on-array-open-sub-left-4 : (t : ℕ) → on-array-open-lts.Need-sub-left-4 (
   emit-reads.Asked,
   emit-reads.Learnt,
   array-turns-reads.Asked,
@@ -434,7 +442,7 @@ on-array-open-sub-left-2 : (t : ℕ) → on-array-open-lts.Need-sub-left-2 (
   on-inline-table-open-below t,
   on-inline-table-open.Post,
 ) (on-array-open-at t) on-array-open.Post on-array-open-Inv-loop on-array-open-μ-loop
-on-array-open-sub-left-2 t c = omega (arith, (c .before .if3) .left)
+on-array-open-sub-left-4 t c = omega (arith, (c .before .if3) .left)
 
 on-array-open-emit-requires-2 : (t : ℕ) → on-array-open-lts.Need-emit-requires-2 (
   emit-reads.Asked,
@@ -482,7 +490,7 @@ on-array-open-on-array-open-requires : (t : ℕ) → on-array-open-lts.Need-on-a
   on-inline-table-open-below t,
   on-inline-table-open.Post,
 ) (on-array-open-at t) on-array-open.Post on-array-open-Inv-loop on-array-open-μ-loop
-on-array-open-on-array-open-requires t c κs = (omega (arith, ((c .before .before .before .before .before .before .before .before .before .before .before .before .before .before .before .before .loop) .inv .0) .sum, (c .before .before .before .before .before .before .before .before .before .before .before .before .before .before .before .before .before .before .before .before .before .before .before .before .before .pre) .0), (c .before .before .before .before .before .before .before .before .before .before .before .before .before .array-turns) .ensures .good)
+on-array-open-on-array-open-requires t c κs = (omega (arith, ((c .before .before .before .before .before .before .before .before .before .before .before .before .before .before .before .before .loop) .inv .0) .sum, (c .before .before .before .before .before .before .before .before .before .before .before .before .before .before .before .before .before .before .before .before .before .before .before .before .before .before .pre) .0), (c .before .before .before .before .before .before .before .before .before .before .before .before .before .array-turns) .ensures .good)
 
 on-array-open-same-length-5 : (t : ℕ) → on-array-open-lts.Need-same-length-5 (
   emit-reads.Asked,
@@ -518,7 +526,7 @@ on-array-open-returns-4 : (t : ℕ) → on-array-open-lts.Need-returns-4 (
   on-inline-table-open-below t,
   on-inline-table-open.Post,
 ) (on-array-open-at t) on-array-open.Post on-array-open-Inv-loop on-array-open-μ-loop
-on-array-open-returns-4 t c = nested-as (open-array ((c .before .before .before .before .before .before .before .before .before .before .before .before .before .before .before .before .before .before .before .before .before .before .before .before .before .before .before .before .before .before .before .args) .levels) _ _ _ ((c .before .before .before .before .before .before .before .before .before .before .before .before .before .before .before .before .before .before .before .before .before .before .before .before .before .before .before .if1) .left)) (nested-item _ _ (λ all. (c .before .before .before .before .before .before .before .before .before .before .before .before .before .before .before .before .before .before .before .before .before .before .before .before .before .emit) .ensures all _) (stack-array-stop ((c .before .before .before .before .before .before .before .before .before .before .before .before .before .before .before .before .before .before .before .before .before .before .loop) .inv .0) _ ((c .before .before .before .before .before .before .before .before .before .before .before .before .before .before .before .before .before .before .before .array-turns) .ensures) _ ((c .before .before .before .before .before .before .before .before .before .before .before .x) .given .1) ((c .before .before .before .before .before .on-array-open) .ensures) ((c .if5) .taken)))
+on-array-open-returns-4 t c = nested-as (open-array ((c .before .before .before .before .before .before .before .before .before .before .before .before .before .before .before .before .before .before .before .before .before .before .before .before .before .before .before .before .before .before .before .before .args) .settings .levels) _ _ _ ((c .before .before .before .before .before .before .before .before .before .before .before .before .before .before .before .before .before .before .before .before .before .before .before .before .before .before .before .if1) .left)) (nested-item _ _ (λ all. (c .before .before .before .before .before .before .before .before .before .before .before .before .before .before .before .before .before .before .before .before .before .before .before .before .before .emit) .ensures all _) (stack-array-stop ((c .before .before .before .before .before .before .before .before .before .before .before .before .before .before .before .before .before .before .before .before .before .before .loop) .inv .0) _ ((c .before .before .before .before .before .before .before .before .before .before .before .before .before .before .before .before .before .before .before .array-turns) .ensures) _ ((c .before .before .before .before .before .before .before .before .before .before .before .x) .given .1) ((c .before .before .before .before .before .on-array-open) .ensures) ((c .if5) .taken)))
 
 on-array-open-loop-less-4 : (t : ℕ) → on-array-open-lts.Need-loop-less-4 (
   emit-reads.Asked,
@@ -556,18 +564,17 @@ on-array-open-enum-known-x-2 : (t : ℕ) → on-array-open-lts.Need-enum-known-x
 ) (on-array-open-at t) on-array-open.Post on-array-open-Inv-loop on-array-open-μ-loop
 on-array-open-enum-known-x-2 t c = search needs
 
-on-array-open-on-inline-table-open-requires :
-    (t : ℕ) → on-array-open-lts.Need-on-inline-table-open-requires (
-      emit-reads.Asked,
-      emit-reads.Learnt,
-      array-turns-reads.Asked,
-      array-turns-reads.Learnt,
-      on-array-open-below t,
-      on-array-open.Post,
-      on-inline-table-open-below t,
-      on-inline-table-open.Post,
-    ) (on-array-open-at t) on-array-open.Post on-array-open-Inv-loop on-array-open-μ-loop
-on-array-open-on-inline-table-open-requires t c κs = (omega (arith, ((c .before .before .before .before .before .before .before .before .before .before .before .before .before .before .loop) .inv .0) .sum, (c .before .before .before .before .before .before .before .before .before .before .before .before .before .before .before .before .before .before .before .before .before .before .before .pre) .0), (c .before .before .before .before .before .before .before .before .before .before .before .array-turns) .ensures .good)
+on-array-open-on-inline-table-open-requires : (t : ℕ) → on-array-open-lts.Need-on-inline-table-open-requires (
+  emit-reads.Asked,
+  emit-reads.Learnt,
+  array-turns-reads.Asked,
+  array-turns-reads.Learnt,
+  on-array-open-below t,
+  on-array-open.Post,
+  on-inline-table-open-below t,
+  on-inline-table-open.Post,
+) (on-array-open-at t) on-array-open.Post on-array-open-Inv-loop on-array-open-μ-loop
+on-array-open-on-inline-table-open-requires t c κs = (omega (arith, ((c .before .before .before .before .before .before .before .before .before .before .before .before .before .before .loop) .inv .0) .sum, (c .before .before .before .before .before .before .before .before .before .before .before .before .before .before .before .before .before .before .before .before .before .before .before .before .pre) .0), (c .before .before .before .before .before .before .before .before .before .before .before .array-turns) .ensures .good)
 
 on-array-open-same-length-7 : (t : ℕ) → on-array-open-lts.Need-same-length-7 (
   emit-reads.Asked,
@@ -603,7 +610,7 @@ on-array-open-returns-5 : (t : ℕ) → on-array-open-lts.Need-returns-5 (
   on-inline-table-open-below t,
   on-inline-table-open.Post,
 ) (on-array-open-at t) on-array-open.Post on-array-open-Inv-loop on-array-open-μ-loop
-on-array-open-returns-5 t c = nested-as (open-array ((c .before .before .before .before .before .before .before .before .before .before .before .before .before .before .before .before .before .before .before .before .before .before .before .before .before .before .before .before .before .args) .levels) _ _ _ ((c .before .before .before .before .before .before .before .before .before .before .before .before .before .before .before .before .before .before .before .before .before .before .before .before .before .if1) .left)) (nested-item _ _ (λ all. (c .before .before .before .before .before .before .before .before .before .before .before .before .before .before .before .before .before .before .before .before .before .before .before .emit) .ensures all _) (stack-table-stop ((c .before .before .before .before .before .before .before .before .before .before .before .before .before .before .before .before .before .before .before .before .loop) .inv .0) _ ((c .before .before .before .before .before .before .before .before .before .before .before .before .before .before .before .before .before .array-turns) .ensures) _ ((c .before .before .before .before .before .before .before .before .before .x2) .given .1) ((c .before .before .before .before .before .on-inline-table-open) .ensures) ((c .if6) .taken)))
+on-array-open-returns-5 t c = nested-as (open-array ((c .before .before .before .before .before .before .before .before .before .before .before .before .before .before .before .before .before .before .before .before .before .before .before .before .before .before .before .before .before .before .args) .settings .levels) _ _ _ ((c .before .before .before .before .before .before .before .before .before .before .before .before .before .before .before .before .before .before .before .before .before .before .before .before .before .if1) .left)) (nested-item _ _ (λ all. (c .before .before .before .before .before .before .before .before .before .before .before .before .before .before .before .before .before .before .before .before .before .before .before .emit) .ensures all _) (stack-table-stop ((c .before .before .before .before .before .before .before .before .before .before .before .before .before .before .before .before .before .before .before .before .loop) .inv .0) _ ((c .before .before .before .before .before .before .before .before .before .before .before .before .before .before .before .before .before .array-turns) .ensures) _ ((c .before .before .before .before .before .before .before .before .before .x2) .given .1) ((c .before .before .before .before .before .on-inline-table-open) .ensures) ((c .if6) .taken)))
 
 on-array-open-loop-less-5 : (t : ℕ) → on-array-open-lts.Need-loop-less-5 (
   emit-reads.Asked,
@@ -630,12 +637,12 @@ on-array-open-loop-again-5 : (t : ℕ) → on-array-open-lts.Need-loop-again-5 (
 on-array-open-loop-again-5 t c = (stack-table-again ((c .before .before .before .before .before .before .before .before .before .before .before .before .before .before .before .before .before .before .before .before .before .before .loop) .inv .0) _ ((c .before .before .before .before .before .before .before .before .before .before .before .before .before .before .before .before .before .before .before .array-turns) .ensures) _ ((c .before .before .before .before .before .before .before .before .before .before .before .x2) .given .1) ((c .before .before .before .before .before .before .before .on-inline-table-open) .ensures) ((c .before .before .if6) .left), (c .before .before .before .before .before .before .before .before .before .before .before .before .before .before .before .before .before .before .before .before .before .before .loop) .inv .1, (c .before .before .before .before .before .before .before .before .before .before .before .before .before .before .before .before .before .before .before .before .before .before .loop) .inv .2, ((c .before .before .before .before .before .before .before .on-inline-table-open .kept .1 .1 .1 .1 .1 .0) ∙ (c .before .before .before .before .before .before .before .before .before .before .before .before .before .before .before .before .before .before .before .array-turns .kept .1 .1 .1 .1 .1 .0)) ∙ (c .before .before .before .before .before .before .before .before .before .before .before .before .before .before .before .before .before .before .before .before .before .before .loop) .inv .3, ((c .before .before .before .before .before .before .before .on-inline-table-open .kept .1 .1 .1 .1 .1 .1 .0) ∙ (c .before .before .before .before .before .before .before .before .before .before .before .before .before .before .before .before .before .before .before .array-turns .kept .1 .1 .1 .1 .1 .1 .0)) ∙ (c .before .before .before .before .before .before .before .before .before .before .before .before .before .before .before .before .before .before .before .before .before .before .loop) .inv .4, omega (arith, (c .before .before .before .before .before .before .before .before .before .before .before .before .before .before .before .before .before .before .before .before .before .before .loop) .inv .5))
 
 abbrev on-inline-table-open-Inv-loop : on-inline-table-open-lts.InvT-loop
-on-inline-table-open-Inv-loop s head levels events₀ errors₀ n₀ cur₀ p₀ actions events errors n cur p =
-    Turns s (λ k. turns (inlineTableTurn (span (head .start) (head .end)) (onOpen (levels - 1))) k p (tokensAt s cur)) (looping (inlineTableTurn (span (head .start) (head .end)) (onOpen (levels - 1))) p₀ (tokensAt s cur₀)) (bufs events errors n) (bufs events₀ errors₀ n₀) cur cur₀
+on-inline-table-open-Inv-loop s head events₀ errors₀ levels n₀ cur₀ p₀ actions opened inside events errors n cur p =
+    Turns s (λ k. turns (inlineTableTurn (span (head .start) (head .end)) (count s - cur₀ .at) (onOpen (levels - 1))) k p (tokensAt s cur)) (looping (inlineTableTurn (span (head .start) (head .end)) (count s - cur₀ .at) (onOpen (levels - 1))) p₀ (tokensAt s cur₀)) (bufs events errors n) (bufs events₀ errors₀ n₀) cur cur₀
     × (length events ≡ length events₀) × (length errors ≡ length errors₀) × (actions ≡ actionTable)
 
 abbrev on-inline-table-open-μ-loop : on-inline-table-open-lts.MeasureT-loop
-on-inline-table-open-μ-loop s head levels events₀ errors₀ n₀ cur₀ p₀ actions events errors n cur p = count s - cur .at
+on-inline-table-open-μ-loop s head events₀ errors₀ levels n₀ cur₀ p₀ actions opened inside events errors n cur p = count s - cur .at
 
 on-inline-table-open-returns : (t : ℕ) → on-inline-table-open-lts.Need-returns (
   emit-reads.Asked,
@@ -648,12 +655,8 @@ on-inline-table-open-returns : (t : ℕ) → on-inline-table-open-lts.Need-retur
   on-array-open.Post,
   on-inline-table-open-below t,
   on-inline-table-open.Post,
-)
-    (on-inline-table-open-at t)
-    on-inline-table-open.Post
-    on-inline-table-open-Inv-loop
-    on-inline-table-open-μ-loop
-on-inline-table-open-returns t c = no-level ((c .before .before .before .before .args) .levels) Bracket.Curly _ _ _ _ _ _ ((c .if1) .taken) ((c .before .before .before .before .pre) .1)
+) (on-inline-table-open-at t) on-inline-table-open.Post on-inline-table-open-Inv-loop on-inline-table-open-μ-loop
+on-inline-table-open-returns t c = no-level ((c .before .before .before .before .before .args) .settings .levels) Bracket.Curly _ _ _ _ _ _ ((c .if1) .taken) ((c .before .before .before .before .before .pre) .1)
 
 on-inline-table-open-emit-requires : (t : ℕ) → on-inline-table-open-lts.Need-emit-requires (
   emit-reads.Asked,
@@ -666,31 +669,36 @@ on-inline-table-open-emit-requires : (t : ℕ) → on-inline-table-open-lts.Need
   on-array-open.Post,
   on-inline-table-open-below t,
   on-inline-table-open.Post,
-)
-    (on-inline-table-open-at t)
-    on-inline-table-open.Post
-    on-inline-table-open-Inv-loop
-    on-inline-table-open-μ-loop
+) (on-inline-table-open-at t) on-inline-table-open.Post on-inline-table-open-Inv-loop on-inline-table-open-μ-loop
 on-inline-table-open-emit-requires t c κs = search needs
 
-on-inline-table-open-action-table-requires :
-    (t : ℕ) → on-inline-table-open-lts.Need-action-table-requires (
-      emit-reads.Asked,
-      emit-reads.Learnt,
-      action-table-reads.Asked,
-      action-table-reads.Learnt,
-      inline-table-turn-reads.Asked,
-      inline-table-turn-reads.Learnt,
-      on-array-open-below t,
-      on-array-open.Post,
-      on-inline-table-open-below t,
-      on-inline-table-open.Post,
-    )
-    (on-inline-table-open-at t)
-    on-inline-table-open.Post
-    on-inline-table-open-Inv-loop
-    on-inline-table-open-μ-loop
+on-inline-table-open-action-table-requires : (t : ℕ) → on-inline-table-open-lts.Need-action-table-requires (
+  emit-reads.Asked,
+  emit-reads.Learnt,
+  action-table-reads.Asked,
+  action-table-reads.Learnt,
+  inline-table-turn-reads.Asked,
+  inline-table-turn-reads.Learnt,
+  on-array-open-below t,
+  on-array-open.Post,
+  on-inline-table-open-below t,
+  on-inline-table-open.Post,
+) (on-inline-table-open-at t) on-inline-table-open.Post on-inline-table-open-Inv-loop on-inline-table-open-μ-loop
 on-inline-table-open-action-table-requires t c κs = search needs
+
+on-inline-table-open-sub-t36 : (t : ℕ) → on-inline-table-open-lts.Need-sub-t36 (
+  emit-reads.Asked,
+  emit-reads.Learnt,
+  action-table-reads.Asked,
+  action-table-reads.Learnt,
+  inline-table-turn-reads.Asked,
+  inline-table-turn-reads.Learnt,
+  on-array-open-below t,
+  on-array-open.Post,
+  on-inline-table-open-below t,
+  on-inline-table-open.Post,
+) (on-inline-table-open-at t) on-inline-table-open.Post on-inline-table-open-Inv-loop on-inline-table-open-μ-loop
+on-inline-table-open-sub-t36 t c = omega (arith, (c .before .before .before .before .before .if1) .left)
 
 on-inline-table-open-loop-holds : (t : ℕ) → on-inline-table-open-lts.Need-loop-holds (
   emit-reads.Asked,
@@ -703,31 +711,22 @@ on-inline-table-open-loop-holds : (t : ℕ) → on-inline-table-open-lts.Need-lo
   on-array-open.Post,
   on-inline-table-open-below t,
   on-inline-table-open.Post,
-)
-    (on-inline-table-open-at t)
-    on-inline-table-open.Post
-    on-inline-table-open-Inv-loop
-    on-inline-table-open-μ-loop
-on-inline-table-open-loop-holds t c = (turns-begun _ _ _ _ ((c .before .before .before .before .before .before .before .before .before .pre) .1), refl, refl, (c .action-table) .ensures)
+) (on-inline-table-open-at t) on-inline-table-open.Post on-inline-table-open-Inv-loop on-inline-table-open-μ-loop
+on-inline-table-open-loop-holds t c = (turns-begun _ _ _ _ ((c .before .before .before .before .before .before .before .before .before .before .pre) .1), refl, refl, (c .action-table) .ensures)
 
-on-inline-table-open-inline-table-turn-requires :
-    (t : ℕ) → on-inline-table-open-lts.Need-inline-table-turn-requires (
-      emit-reads.Asked,
-      emit-reads.Learnt,
-      action-table-reads.Asked,
-      action-table-reads.Learnt,
-      inline-table-turn-reads.Asked,
-      inline-table-turn-reads.Learnt,
-      on-array-open-below t,
-      on-array-open.Post,
-      on-inline-table-open-below t,
-      on-inline-table-open.Post,
-    )
-    (on-inline-table-open-at t)
-    on-inline-table-open.Post
-    on-inline-table-open-Inv-loop
-    on-inline-table-open-μ-loop
-on-inline-table-open-inline-table-turn-requires t c κs = (((c .before .before .before .loop) .inv .0) .good, (c .before .before .before .loop) .inv .3)
+on-inline-table-open-inline-table-turn-requires : (t : ℕ) → on-inline-table-open-lts.Need-inline-table-turn-requires (
+  emit-reads.Asked,
+  emit-reads.Learnt,
+  action-table-reads.Asked,
+  action-table-reads.Learnt,
+  inline-table-turn-reads.Asked,
+  inline-table-turn-reads.Learnt,
+  on-array-open-below t,
+  on-array-open.Post,
+  on-inline-table-open-below t,
+  on-inline-table-open.Post,
+) (on-inline-table-open-at t) on-inline-table-open.Post on-inline-table-open-Inv-loop on-inline-table-open-μ-loop
+on-inline-table-open-inline-table-turn-requires t c κs = (((c .before .before .before .loop) .inv .0) .good, (c .before .before .before .loop) .inv .3, (c .before .before .before .before .before .before .before .before .before .before .before .before .before .before .pre) .1 .low)
 
 on-inline-table-open-enum-told : (t : ℕ) → on-inline-table-open-lts.Need-enum-told (
   emit-reads.Asked,
@@ -740,11 +739,7 @@ on-inline-table-open-enum-told : (t : ℕ) → on-inline-table-open-lts.Need-enu
   on-array-open.Post,
   on-inline-table-open-below t,
   on-inline-table-open.Post,
-)
-    (on-inline-table-open-at t)
-    on-inline-table-open.Post
-    on-inline-table-open-Inv-loop
-    on-inline-table-open-μ-loop
+) (on-inline-table-open-at t) on-inline-table-open.Post on-inline-table-open-Inv-loop on-inline-table-open-μ-loop
 on-inline-table-open-enum-told t c = search needs
 
 on-inline-table-open-loop-less : (t : ℕ) → on-inline-table-open-lts.Need-loop-less (
@@ -758,12 +753,8 @@ on-inline-table-open-loop-less : (t : ℕ) → on-inline-table-open-lts.Need-loo
   on-array-open.Post,
   on-inline-table-open-below t,
   on-inline-table-open.Post,
-)
-    (on-inline-table-open-at t)
-    on-inline-table-open.Post
-    on-inline-table-open-Inv-loop
-    on-inline-table-open-μ-loop
-on-inline-table-open-loop-less t c = omega (arith, turn-moved (onOpen ((c .before .before .before .before .before .before .before .before .before .before .before .before .before .before .before .before .before .before .before .before .before .before .before .args) .levels - 1)) (λ nest. inlineTableTurn (span ((c .before .before .before .before .before .before .before .before .before .before .before .before .before .before .before .before .before .before .before .before .before .before .before .args) .head .start) ((c .before .before .before .before .before .before .before .before .before .before .before .before .before .before .before .before .before .before .before .before .before .before .before .args) .head .end)) nest) (λ f g w. refl) ((c .before .before .before .before .before .before .before .before .before .before .before .before .before .loop) .p) ((c .before .before .before .before .before .before .before .before .before .before .before .before .before .loop) .inv .0) ((c .before .before .before .before .before .before .before .before .before .inline-table-turn) .result .progress) ((c .before .before .before .before .before .before .before .before .before .inline-table-turn) .ensures) ((c .enum-told) .given .1), (c .before .before .before .before .before .before .before .before .before .inline-table-turn) .ensures .good .low)
+) (on-inline-table-open-at t) on-inline-table-open.Post on-inline-table-open-Inv-loop on-inline-table-open-μ-loop
+on-inline-table-open-loop-less t c = omega (arith, turn-moved (onOpen ((c .before .before .before .before .before .before .before .before .before .before .before .before .before .before .before .before .before .before .before .before .before .before .before .before .args) .settings .levels - 1)) (λ nest. inlineTableTurn (span ((c .before .before .before .before .before .before .before .before .before .before .before .before .before .before .before .before .before .before .before .before .before .before .before .before .args) .head .start) ((c .before .before .before .before .before .before .before .before .before .before .before .before .before .before .before .before .before .before .before .before .before .before .before .before .args) .head .end)) (count ((c .before .before .before .before .before .before .before .before .before .before .before .before .before .before .before .before .before .before .before .before .before .before .before .before .args) .s .now) - (c .before .before .before .before .before .before .before .before .before .before .before .before .before .before .before .before .before .before .before .before .before .before .before .before .args) .c .at) nest) (λ f g w. refl) ((c .before .before .before .before .before .before .before .before .before .before .before .before .before .loop) .p) ((c .before .before .before .before .before .before .before .before .before .before .before .before .before .loop) .inv .0) ((c .before .before .before .before .before .before .before .before .before .inline-table-turn) .result .progress) ((c .before .before .before .before .before .before .before .before .before .inline-table-turn) .ensures) ((c .enum-told) .given .1), (c .before .before .before .before .before .before .before .before .before .inline-table-turn) .ensures .good .low)
 
 on-inline-table-open-loop-again : (t : ℕ) → on-inline-table-open-lts.Need-loop-again (
   emit-reads.Asked,
@@ -776,12 +767,8 @@ on-inline-table-open-loop-again : (t : ℕ) → on-inline-table-open-lts.Need-lo
   on-array-open.Post,
   on-inline-table-open-below t,
   on-inline-table-open.Post,
-)
-    (on-inline-table-open-at t)
-    on-inline-table-open.Post
-    on-inline-table-open-Inv-loop
-    on-inline-table-open-μ-loop
-on-inline-table-open-loop-again t c = (turn-next (onOpen ((c .before .before .before .before .before .before .before .before .before .before .before .before .before .before .before .before .before .before .before .before .before .before .before .args) .levels - 1)) (λ nest. inlineTableTurn (span ((c .before .before .before .before .before .before .before .before .before .before .before .before .before .before .before .before .before .before .before .before .before .before .before .args) .head .start) ((c .before .before .before .before .before .before .before .before .before .before .before .before .before .before .before .before .before .before .before .before .before .before .before .args) .head .end)) nest) (λ f g w. refl) ((c .before .before .before .before .before .before .before .before .before .before .before .before .before .loop) .p) ((c .before .before .before .before .before .before .before .before .before .before .before .before .before .loop) .inv .0) ((c .before .before .before .before .before .before .before .before .before .inline-table-turn) .result .progress) ((c .before .before .before .before .before .before .before .before .before .inline-table-turn) .ensures) ((c .enum-told) .given .1), ((c .before .before .before .before .before .before .before .before .before .inline-table-turn .kept .1 .1 .1 .1 .1 .1 .0)) ∙ (c .before .before .before .before .before .before .before .before .before .before .before .before .before .loop) .inv .1, ((c .before .before .before .before .before .before .before .before .before .inline-table-turn .kept .1 .1 .1 .1 .1 .1 .1 .0)) ∙ (c .before .before .before .before .before .before .before .before .before .before .before .before .before .loop) .inv .2, (c .before .before .before .before .before .before .before .before .before .before .before .before .before .loop) .inv .3)
+) (on-inline-table-open-at t) on-inline-table-open.Post on-inline-table-open-Inv-loop on-inline-table-open-μ-loop
+on-inline-table-open-loop-again t c = (turn-next (onOpen ((c .before .before .before .before .before .before .before .before .before .before .before .before .before .before .before .before .before .before .before .before .before .before .before .before .args) .settings .levels - 1)) (λ nest. inlineTableTurn (span ((c .before .before .before .before .before .before .before .before .before .before .before .before .before .before .before .before .before .before .before .before .before .before .before .before .args) .head .start) ((c .before .before .before .before .before .before .before .before .before .before .before .before .before .before .before .before .before .before .before .before .before .before .before .before .args) .head .end)) (count ((c .before .before .before .before .before .before .before .before .before .before .before .before .before .before .before .before .before .before .before .before .before .before .before .before .args) .s .now) - (c .before .before .before .before .before .before .before .before .before .before .before .before .before .before .before .before .before .before .before .before .before .before .before .before .args) .c .at) nest) (λ f g w. refl) ((c .before .before .before .before .before .before .before .before .before .before .before .before .before .loop) .p) ((c .before .before .before .before .before .before .before .before .before .before .before .before .before .loop) .inv .0) ((c .before .before .before .before .before .before .before .before .before .inline-table-turn) .result .progress) ((c .before .before .before .before .before .before .before .before .before .inline-table-turn) .ensures) ((c .enum-told) .given .1), ((c .before .before .before .before .before .before .before .before .before .inline-table-turn .kept .1 .1 .1 .1 .1 .1 .1 .0)) ∙ (c .before .before .before .before .before .before .before .before .before .before .before .before .before .loop) .inv .1, ((c .before .before .before .before .before .before .before .before .before .inline-table-turn .kept .1 .1 .1 .1 .1 .1 .1 .1 .0)) ∙ (c .before .before .before .before .before .before .before .before .before .before .before .before .before .loop) .inv .2, (c .before .before .before .before .before .before .before .before .before .before .before .before .before .loop) .inv .3)
 
 on-inline-table-open-enum-told-2 : (t : ℕ) → on-inline-table-open-lts.Need-enum-told-2 (
   emit-reads.Asked,
@@ -794,11 +781,7 @@ on-inline-table-open-enum-told-2 : (t : ℕ) → on-inline-table-open-lts.Need-e
   on-array-open.Post,
   on-inline-table-open-below t,
   on-inline-table-open.Post,
-)
-    (on-inline-table-open-at t)
-    on-inline-table-open.Post
-    on-inline-table-open-Inv-loop
-    on-inline-table-open-μ-loop
+) (on-inline-table-open-at t) on-inline-table-open.Post on-inline-table-open-Inv-loop on-inline-table-open-μ-loop
 on-inline-table-open-enum-told-2 t c = search needs
 
 on-inline-table-open-same-length : (t : ℕ) → on-inline-table-open-lts.Need-same-length (
@@ -812,12 +795,8 @@ on-inline-table-open-same-length : (t : ℕ) → on-inline-table-open-lts.Need-s
   on-array-open.Post,
   on-inline-table-open-below t,
   on-inline-table-open.Post,
-)
-    (on-inline-table-open-at t)
-    on-inline-table-open.Post
-    on-inline-table-open-Inv-loop
-    on-inline-table-open-μ-loop
-on-inline-table-open-same-length t c = ((c .before .before .before .before .before .before .before .before .before .inline-table-turn .kept .1 .1 .1 .1 .1 .1 .0)) ∙ (c .before .before .before .before .before .before .before .before .before .before .before .before .before .loop) .inv .1 ∙ (c .before .before .before .before .before .before .before .before .before .before .before .before .before .before .before .before .before .emit) .kept .0
+) (on-inline-table-open-at t) on-inline-table-open.Post on-inline-table-open-Inv-loop on-inline-table-open-μ-loop
+on-inline-table-open-same-length t c = ((c .before .before .before .before .before .before .before .before .before .inline-table-turn .kept .1 .1 .1 .1 .1 .1 .1 .0)) ∙ (c .before .before .before .before .before .before .before .before .before .before .before .before .before .loop) .inv .1 ∙ (c .before .before .before .before .before .before .before .before .before .before .before .before .before .before .before .before .before .emit) .kept .0
 
 on-inline-table-open-same-length-2 : (t : ℕ) → on-inline-table-open-lts.Need-same-length-2 (
   emit-reads.Asked,
@@ -830,12 +809,8 @@ on-inline-table-open-same-length-2 : (t : ℕ) → on-inline-table-open-lts.Need
   on-array-open.Post,
   on-inline-table-open-below t,
   on-inline-table-open.Post,
-)
-    (on-inline-table-open-at t)
-    on-inline-table-open.Post
-    on-inline-table-open-Inv-loop
-    on-inline-table-open-μ-loop
-on-inline-table-open-same-length-2 t c = ((c .before .before .before .before .before .before .before .before .before .inline-table-turn .kept .1 .1 .1 .1 .1 .1 .1 .0)) ∙ (c .before .before .before .before .before .before .before .before .before .before .before .before .before .loop) .inv .2
+) (on-inline-table-open-at t) on-inline-table-open.Post on-inline-table-open-Inv-loop on-inline-table-open-μ-loop
+on-inline-table-open-same-length-2 t c = ((c .before .before .before .before .before .before .before .before .before .inline-table-turn .kept .1 .1 .1 .1 .1 .1 .1 .1 .0)) ∙ (c .before .before .before .before .before .before .before .before .before .before .before .before .before .loop) .inv .2
 
 on-inline-table-open-returns-2 : (t : ℕ) → on-inline-table-open-lts.Need-returns-2 (
   emit-reads.Asked,
@@ -848,12 +823,8 @@ on-inline-table-open-returns-2 : (t : ℕ) → on-inline-table-open-lts.Need-ret
   on-array-open.Post,
   on-inline-table-open-below t,
   on-inline-table-open.Post,
-)
-    (on-inline-table-open-at t)
-    on-inline-table-open.Post
-    on-inline-table-open-Inv-loop
-    on-inline-table-open-μ-loop
-on-inline-table-open-returns-2 t c = nested-as (open-table ((c .before .before .before .before .before .before .before .before .before .before .before .before .before .before .before .before .before .before .before .before .before .before .before .args) .levels) _ _ _ ((c .before .before .before .before .before .before .before .before .before .before .before .before .before .before .before .before .before .before .before .if1) .left)) (nested-item _ _ (λ all. (c .before .before .before .before .before .before .before .before .before .before .before .before .before .before .before .before .before .emit) .ensures all _) (turn-over (onOpen ((c .before .before .before .before .before .before .before .before .before .before .before .before .before .before .before .before .before .before .before .before .before .before .before .args) .levels - 1)) (λ nest. inlineTableTurn (span ((c .before .before .before .before .before .before .before .before .before .before .before .before .before .before .before .before .before .before .before .before .before .before .before .args) .head .start) ((c .before .before .before .before .before .before .before .before .before .before .before .before .before .before .before .before .before .before .before .before .before .before .before .args) .head .end)) nest) (λ f g w. refl) ((c .before .before .before .before .before .before .before .before .before .before .before .before .before .loop) .p) ((c .before .before .before .before .before .before .before .before .before .before .before .before .before .loop) .inv .0) ((c .before .before .before .before .before .before .before .before .before .inline-table-turn) .result .progress) ((c .before .before .before .before .before .before .before .before .before .inline-table-turn) .ensures) ((c .enum-told2) .given .1)))
+) (on-inline-table-open-at t) on-inline-table-open.Post on-inline-table-open-Inv-loop on-inline-table-open-μ-loop
+on-inline-table-open-returns-2 t c = nested-as (open-table _ _ ((c .before .before .before .before .before .before .before .before .before .before .before .before .before .before .before .before .before .before .before .before .before .before .before .before .args) .settings .levels) _ _ ((c .before .before .before .before .before .before .before .before .before .before .before .before .before .before .before .before .before .before .before .if1) .left)) (nested-item _ _ (λ all. (c .before .before .before .before .before .before .before .before .before .before .before .before .before .before .before .before .before .emit) .ensures all _) (turn-over (onOpen ((c .before .before .before .before .before .before .before .before .before .before .before .before .before .before .before .before .before .before .before .before .before .before .before .before .args) .settings .levels - 1)) (λ nest. inlineTableTurn (span ((c .before .before .before .before .before .before .before .before .before .before .before .before .before .before .before .before .before .before .before .before .before .before .before .before .args) .head .start) ((c .before .before .before .before .before .before .before .before .before .before .before .before .before .before .before .before .before .before .before .before .before .before .before .before .args) .head .end)) (count ((c .before .before .before .before .before .before .before .before .before .before .before .before .before .before .before .before .before .before .before .before .before .before .before .before .args) .s .now) - (c .before .before .before .before .before .before .before .before .before .before .before .before .before .before .before .before .before .before .before .before .before .before .before .before .args) .c .at) nest) (λ f g w. refl) ((c .before .before .before .before .before .before .before .before .before .before .before .before .before .loop) .p) ((c .before .before .before .before .before .before .before .before .before .before .before .before .before .loop) .inv .0) ((c .before .before .before .before .before .before .before .before .before .inline-table-turn) .result .progress) ((c .before .before .before .before .before .before .before .before .before .inline-table-turn) .ensures) ((c .enum-told2) .given .1)))
 
 on-inline-table-open-enum-known-x : (t : ℕ) → on-inline-table-open-lts.Need-enum-known-x (
   emit-reads.Asked,
@@ -866,14 +837,10 @@ on-inline-table-open-enum-known-x : (t : ℕ) → on-inline-table-open-lts.Need-
   on-array-open.Post,
   on-inline-table-open-below t,
   on-inline-table-open.Post,
-)
-    (on-inline-table-open-at t)
-    on-inline-table-open.Post
-    on-inline-table-open-Inv-loop
-    on-inline-table-open-μ-loop
+) (on-inline-table-open-at t) on-inline-table-open.Post on-inline-table-open-Inv-loop on-inline-table-open-μ-loop
 on-inline-table-open-enum-known-x t c = search needs
 
-on-inline-table-open-sub-on-array-open : (t : ℕ) → on-inline-table-open-lts.Need-sub-on-array-open (
+on-inline-table-open-on-array-open-requires : (t : ℕ) → on-inline-table-open-lts.Need-on-array-open-requires (
   emit-reads.Asked,
   emit-reads.Learnt,
   action-table-reads.Asked,
@@ -884,31 +851,8 @@ on-inline-table-open-sub-on-array-open : (t : ℕ) → on-inline-table-open-lts.
   on-array-open.Post,
   on-inline-table-open-below t,
   on-inline-table-open.Post,
-)
-    (on-inline-table-open-at t)
-    on-inline-table-open.Post
-    on-inline-table-open-Inv-loop
-    on-inline-table-open-μ-loop
-on-inline-table-open-sub-on-array-open t c = omega (arith, (c .before .before .before .before .before .before .before .before .before .before .before .before .before .before .before .before .before .before .before .before .if1) .left)
-
-on-inline-table-open-on-array-open-requires :
-    (t : ℕ) → on-inline-table-open-lts.Need-on-array-open-requires (
-      emit-reads.Asked,
-      emit-reads.Learnt,
-      action-table-reads.Asked,
-      action-table-reads.Learnt,
-      inline-table-turn-reads.Asked,
-      inline-table-turn-reads.Learnt,
-      on-array-open-below t,
-      on-array-open.Post,
-      on-inline-table-open-below t,
-      on-inline-table-open.Post,
-    )
-    (on-inline-table-open-at t)
-    on-inline-table-open.Post
-    on-inline-table-open-Inv-loop
-    on-inline-table-open-μ-loop
-on-inline-table-open-on-array-open-requires t c κs = (omega (arith, (c .before .before .before .before .before .before .before .before .before .before .before .before .before .before .before .before .before .before .before .before .before .before .if1) .left, (c .before .before .before .before .before .before .before .before .before .before .before .before .before .before .before .before .before .before .before .before .before .before .before .before .before .before .pre) .0), (c .before .before .before .before .before .before .before .before .before .before .before .before .inline-table-turn) .ensures .good)
+) (on-inline-table-open-at t) on-inline-table-open.Post on-inline-table-open-Inv-loop on-inline-table-open-μ-loop
+on-inline-table-open-on-array-open-requires t c κs = (omega (arith, (c .before .before .before .before .before .before .before .before .before .before .before .before .before .before .before .before .before .before .before .before .before .before .if1) .left, (c .before .before .before .before .before .before .before .before .before .before .before .before .before .before .before .before .before .before .before .before .before .before .before .before .before .before .before .pre) .0), (c .before .before .before .before .before .before .before .before .before .before .before .before .inline-table-turn) .ensures .good)
 
 on-inline-table-open-same-length-3 : (t : ℕ) → on-inline-table-open-lts.Need-same-length-3 (
   emit-reads.Asked,
@@ -921,12 +865,8 @@ on-inline-table-open-same-length-3 : (t : ℕ) → on-inline-table-open-lts.Need
   on-array-open.Post,
   on-inline-table-open-below t,
   on-inline-table-open.Post,
-)
-    (on-inline-table-open-at t)
-    on-inline-table-open.Post
-    on-inline-table-open-Inv-loop
-    on-inline-table-open-μ-loop
-on-inline-table-open-same-length-3 t c = ((c .before .before .before .before .before .on-array-open .kept .1 .1 .1 .1 .1 .0) ∙ (c .before .before .before .before .before .before .before .before .before .before .before .before .before .before .before .before .before .before .inline-table-turn .kept .1 .1 .1 .1 .1 .1 .0)) ∙ (c .before .before .before .before .before .before .before .before .before .before .before .before .before .before .before .before .before .before .before .before .before .before .loop) .inv .1 ∙ (c .before .before .before .before .before .before .before .before .before .before .before .before .before .before .before .before .before .before .before .before .before .before .before .before .before .before .emit) .kept .0
+) (on-inline-table-open-at t) on-inline-table-open.Post on-inline-table-open-Inv-loop on-inline-table-open-μ-loop
+on-inline-table-open-same-length-3 t c = ((c .before .before .before .before .before .on-array-open .kept .1 .1 .1 .1 .1 .0) ∙ (c .before .before .before .before .before .before .before .before .before .before .before .before .before .before .before .before .before .before .inline-table-turn .kept .1 .1 .1 .1 .1 .1 .1 .0)) ∙ (c .before .before .before .before .before .before .before .before .before .before .before .before .before .before .before .before .before .before .before .before .before .before .loop) .inv .1 ∙ (c .before .before .before .before .before .before .before .before .before .before .before .before .before .before .before .before .before .before .before .before .before .before .before .before .before .before .emit) .kept .0
 
 on-inline-table-open-same-length-4 : (t : ℕ) → on-inline-table-open-lts.Need-same-length-4 (
   emit-reads.Asked,
@@ -939,12 +879,8 @@ on-inline-table-open-same-length-4 : (t : ℕ) → on-inline-table-open-lts.Need
   on-array-open.Post,
   on-inline-table-open-below t,
   on-inline-table-open.Post,
-)
-    (on-inline-table-open-at t)
-    on-inline-table-open.Post
-    on-inline-table-open-Inv-loop
-    on-inline-table-open-μ-loop
-on-inline-table-open-same-length-4 t c = ((c .before .before .before .before .before .on-array-open .kept .1 .1 .1 .1 .1 .1 .0) ∙ (c .before .before .before .before .before .before .before .before .before .before .before .before .before .before .before .before .before .before .inline-table-turn .kept .1 .1 .1 .1 .1 .1 .1 .0)) ∙ (c .before .before .before .before .before .before .before .before .before .before .before .before .before .before .before .before .before .before .before .before .before .before .loop) .inv .2
+) (on-inline-table-open-at t) on-inline-table-open.Post on-inline-table-open-Inv-loop on-inline-table-open-μ-loop
+on-inline-table-open-same-length-4 t c = ((c .before .before .before .before .before .on-array-open .kept .1 .1 .1 .1 .1 .1 .0) ∙ (c .before .before .before .before .before .before .before .before .before .before .before .before .before .before .before .before .before .before .inline-table-turn .kept .1 .1 .1 .1 .1 .1 .1 .1 .0)) ∙ (c .before .before .before .before .before .before .before .before .before .before .before .before .before .before .before .before .before .before .before .before .before .before .loop) .inv .2
 
 on-inline-table-open-returns-3 : (t : ℕ) → on-inline-table-open-lts.Need-returns-3 (
   emit-reads.Asked,
@@ -957,12 +893,8 @@ on-inline-table-open-returns-3 : (t : ℕ) → on-inline-table-open-lts.Need-ret
   on-array-open.Post,
   on-inline-table-open-below t,
   on-inline-table-open.Post,
-)
-    (on-inline-table-open-at t)
-    on-inline-table-open.Post
-    on-inline-table-open-Inv-loop
-    on-inline-table-open-μ-loop
-on-inline-table-open-returns-3 t c = nested-as (open-table ((c .before .before .before .before .before .before .before .before .before .before .before .before .before .before .before .before .before .before .before .before .before .before .before .before .before .before .before .before .before .before .before .before .args) .levels) _ _ _ ((c .before .before .before .before .before .before .before .before .before .before .before .before .before .before .before .before .before .before .before .before .before .before .before .before .before .before .before .before .if1) .left)) (nested-item _ _ (λ all. (c .before .before .before .before .before .before .before .before .before .before .before .before .before .before .before .before .before .before .before .before .before .before .before .before .before .before .emit) .ensures all _) (array-stop (onOpen ((c .before .before .before .before .before .before .before .before .before .before .before .before .before .before .before .before .before .before .before .before .before .before .before .before .before .before .before .before .before .before .before .before .args) .levels - 1)) (λ nest. inlineTableTurn (span ((c .before .before .before .before .before .before .before .before .before .before .before .before .before .before .before .before .before .before .before .before .before .before .before .before .before .before .before .before .before .before .before .before .args) .head .start) ((c .before .before .before .before .before .before .before .before .before .before .before .before .before .before .before .before .before .before .before .before .before .before .before .before .before .before .before .before .before .before .before .before .args) .head .end)) nest) (λ f g w. refl) ((c .before .before .before .before .before .before .before .before .before .before .before .before .before .before .before .before .before .before .before .before .before .before .loop) .p) ((c .before .before .before .before .before .before .before .before .before .before .before .before .before .before .before .before .before .before .before .before .before .before .loop) .inv .0) ((c .before .before .before .before .before .before .before .before .before .before .before .before .before .before .before .before .before .before .inline-table-turn) .result .progress) ((c .before .before .before .before .before .before .before .before .before .before .before .before .before .before .before .before .before .before .inline-table-turn) .ensures) _ ((c .before .before .before .before .before .before .before .before .before .x) .given .1) ((c .before .before .before .before .before .on-array-open) .ensures) ((c .if2) .taken)))
+) (on-inline-table-open-at t) on-inline-table-open.Post on-inline-table-open-Inv-loop on-inline-table-open-μ-loop
+on-inline-table-open-returns-3 t c = nested-as (open-table _ _ ((c .before .before .before .before .before .before .before .before .before .before .before .before .before .before .before .before .before .before .before .before .before .before .before .before .before .before .before .before .before .before .before .before .before .args) .settings .levels) _ _ ((c .before .before .before .before .before .before .before .before .before .before .before .before .before .before .before .before .before .before .before .before .before .before .before .before .before .before .before .before .if1) .left)) (nested-item _ _ (λ all. (c .before .before .before .before .before .before .before .before .before .before .before .before .before .before .before .before .before .before .before .before .before .before .before .before .before .before .emit) .ensures all _) (array-stop (onOpen ((c .before .before .before .before .before .before .before .before .before .before .before .before .before .before .before .before .before .before .before .before .before .before .before .before .before .before .before .before .before .before .before .before .before .args) .settings .levels - 1)) (λ nest. inlineTableTurn (span ((c .before .before .before .before .before .before .before .before .before .before .before .before .before .before .before .before .before .before .before .before .before .before .before .before .before .before .before .before .before .before .before .before .before .args) .head .start) ((c .before .before .before .before .before .before .before .before .before .before .before .before .before .before .before .before .before .before .before .before .before .before .before .before .before .before .before .before .before .before .before .before .before .args) .head .end)) (count ((c .before .before .before .before .before .before .before .before .before .before .before .before .before .before .before .before .before .before .before .before .before .before .before .before .before .before .before .before .before .before .before .before .before .args) .s .now) - (c .before .before .before .before .before .before .before .before .before .before .before .before .before .before .before .before .before .before .before .before .before .before .before .before .before .before .before .before .before .before .before .before .before .args) .c .at) nest) (λ f g w. refl) ((c .before .before .before .before .before .before .before .before .before .before .before .before .before .before .before .before .before .before .before .before .before .before .loop) .p) ((c .before .before .before .before .before .before .before .before .before .before .before .before .before .before .before .before .before .before .before .before .before .before .loop) .inv .0) ((c .before .before .before .before .before .before .before .before .before .before .before .before .before .before .before .before .before .before .inline-table-turn) .result .progress) ((c .before .before .before .before .before .before .before .before .before .before .before .before .before .before .before .before .before .before .inline-table-turn) .ensures) _ ((c .before .before .before .before .before .before .before .before .before .x) .given .1) ((c .before .before .before .before .before .on-array-open) .ensures) ((c .if2) .taken)))
 
 on-inline-table-open-loop-less-2 : (t : ℕ) → on-inline-table-open-lts.Need-loop-less-2 (
   emit-reads.Asked,
@@ -975,12 +907,8 @@ on-inline-table-open-loop-less-2 : (t : ℕ) → on-inline-table-open-lts.Need-l
   on-array-open.Post,
   on-inline-table-open-below t,
   on-inline-table-open.Post,
-)
-    (on-inline-table-open-at t)
-    on-inline-table-open.Post
-    on-inline-table-open-Inv-loop
-    on-inline-table-open-μ-loop
-on-inline-table-open-loop-less-2 t c = omega (arith, array-moved (onOpen ((c .before .before .before .before .before .before .before .before .before .before .before .before .before .before .before .before .before .before .before .before .before .before .before .before .before .before .before .before .before .before .before .before .before .before .args) .levels - 1)) (λ nest. inlineTableTurn (span ((c .before .before .before .before .before .before .before .before .before .before .before .before .before .before .before .before .before .before .before .before .before .before .before .before .before .before .before .before .before .before .before .before .before .before .args) .head .start) ((c .before .before .before .before .before .before .before .before .before .before .before .before .before .before .before .before .before .before .before .before .before .before .before .before .before .before .before .before .before .before .before .before .before .before .args) .head .end)) nest) (λ f g w. refl) ((c .before .before .before .before .before .before .before .before .before .before .before .before .before .before .before .before .before .before .before .before .before .before .before .before .loop) .p) ((c .before .before .before .before .before .before .before .before .before .before .before .before .before .before .before .before .before .before .before .before .before .before .before .before .loop) .inv .0) ((c .before .before .before .before .before .before .before .before .before .before .before .before .before .before .before .before .before .before .before .before .inline-table-turn) .result .progress) ((c .before .before .before .before .before .before .before .before .before .before .before .before .before .before .before .before .before .before .before .before .inline-table-turn) .ensures) _ ((c .before .before .before .before .before .before .before .before .before .before .before .x) .given .1), (c .before .before .before .before .before .before .before .on-array-open) .ensures .on, (c .before .before .before .before .before .before .before .on-array-open) .ensures .good .low)
+) (on-inline-table-open-at t) on-inline-table-open.Post on-inline-table-open-Inv-loop on-inline-table-open-μ-loop
+on-inline-table-open-loop-less-2 t c = omega (arith, array-moved (onOpen ((c .before .before .before .before .before .before .before .before .before .before .before .before .before .before .before .before .before .before .before .before .before .before .before .before .before .before .before .before .before .before .before .before .before .before .before .args) .settings .levels - 1)) (λ nest. inlineTableTurn (span ((c .before .before .before .before .before .before .before .before .before .before .before .before .before .before .before .before .before .before .before .before .before .before .before .before .before .before .before .before .before .before .before .before .before .before .before .args) .head .start) ((c .before .before .before .before .before .before .before .before .before .before .before .before .before .before .before .before .before .before .before .before .before .before .before .before .before .before .before .before .before .before .before .before .before .before .before .args) .head .end)) (count ((c .before .before .before .before .before .before .before .before .before .before .before .before .before .before .before .before .before .before .before .before .before .before .before .before .before .before .before .before .before .before .before .before .before .before .before .args) .s .now) - (c .before .before .before .before .before .before .before .before .before .before .before .before .before .before .before .before .before .before .before .before .before .before .before .before .before .before .before .before .before .before .before .before .before .before .before .args) .c .at) nest) (λ f g w. refl) ((c .before .before .before .before .before .before .before .before .before .before .before .before .before .before .before .before .before .before .before .before .before .before .before .before .loop) .p) ((c .before .before .before .before .before .before .before .before .before .before .before .before .before .before .before .before .before .before .before .before .before .before .before .before .loop) .inv .0) ((c .before .before .before .before .before .before .before .before .before .before .before .before .before .before .before .before .before .before .before .before .inline-table-turn) .result .progress) ((c .before .before .before .before .before .before .before .before .before .before .before .before .before .before .before .before .before .before .before .before .inline-table-turn) .ensures) _ ((c .before .before .before .before .before .before .before .before .before .before .before .x) .given .1), (c .before .before .before .before .before .before .before .on-array-open) .ensures .on, (c .before .before .before .before .before .before .before .on-array-open) .ensures .good .low)
 
 on-inline-table-open-loop-again-2 : (t : ℕ) → on-inline-table-open-lts.Need-loop-again-2 (
   emit-reads.Asked,
@@ -993,12 +921,8 @@ on-inline-table-open-loop-again-2 : (t : ℕ) → on-inline-table-open-lts.Need-
   on-array-open.Post,
   on-inline-table-open-below t,
   on-inline-table-open.Post,
-)
-    (on-inline-table-open-at t)
-    on-inline-table-open.Post
-    on-inline-table-open-Inv-loop
-    on-inline-table-open-μ-loop
-on-inline-table-open-loop-again-2 t c = (array-again (onOpen ((c .before .before .before .before .before .before .before .before .before .before .before .before .before .before .before .before .before .before .before .before .before .before .before .before .before .before .before .before .before .before .before .before .before .before .args) .levels - 1)) (λ nest. inlineTableTurn (span ((c .before .before .before .before .before .before .before .before .before .before .before .before .before .before .before .before .before .before .before .before .before .before .before .before .before .before .before .before .before .before .before .before .before .before .args) .head .start) ((c .before .before .before .before .before .before .before .before .before .before .before .before .before .before .before .before .before .before .before .before .before .before .before .before .before .before .before .before .before .before .before .before .before .before .args) .head .end)) nest) (λ f g w. refl) ((c .before .before .before .before .before .before .before .before .before .before .before .before .before .before .before .before .before .before .before .before .before .before .before .before .loop) .p) ((c .before .before .before .before .before .before .before .before .before .before .before .before .before .before .before .before .before .before .before .before .before .before .before .before .loop) .inv .0) ((c .before .before .before .before .before .before .before .before .before .before .before .before .before .before .before .before .before .before .before .before .inline-table-turn) .result .progress) ((c .before .before .before .before .before .before .before .before .before .before .before .before .before .before .before .before .before .before .before .before .inline-table-turn) .ensures) _ ((c .before .before .before .before .before .before .before .before .before .before .before .x) .given .1) ((c .before .before .before .before .before .before .before .on-array-open) .ensures) ((c .before .before .if2) .left), ((c .before .before .before .before .before .before .before .on-array-open .kept .1 .1 .1 .1 .1 .0) ∙ (c .before .before .before .before .before .before .before .before .before .before .before .before .before .before .before .before .before .before .before .before .inline-table-turn .kept .1 .1 .1 .1 .1 .1 .0)) ∙ (c .before .before .before .before .before .before .before .before .before .before .before .before .before .before .before .before .before .before .before .before .before .before .before .before .loop) .inv .1, ((c .before .before .before .before .before .before .before .on-array-open .kept .1 .1 .1 .1 .1 .1 .0) ∙ (c .before .before .before .before .before .before .before .before .before .before .before .before .before .before .before .before .before .before .before .before .inline-table-turn .kept .1 .1 .1 .1 .1 .1 .1 .0)) ∙ (c .before .before .before .before .before .before .before .before .before .before .before .before .before .before .before .before .before .before .before .before .before .before .before .before .loop) .inv .2, (c .before .before .before .before .before .before .before .before .before .before .before .before .before .before .before .before .before .before .before .before .before .before .before .before .loop) .inv .3)
+) (on-inline-table-open-at t) on-inline-table-open.Post on-inline-table-open-Inv-loop on-inline-table-open-μ-loop
+on-inline-table-open-loop-again-2 t c = (array-again (onOpen ((c .before .before .before .before .before .before .before .before .before .before .before .before .before .before .before .before .before .before .before .before .before .before .before .before .before .before .before .before .before .before .before .before .before .before .before .args) .settings .levels - 1)) (λ nest. inlineTableTurn (span ((c .before .before .before .before .before .before .before .before .before .before .before .before .before .before .before .before .before .before .before .before .before .before .before .before .before .before .before .before .before .before .before .before .before .before .before .args) .head .start) ((c .before .before .before .before .before .before .before .before .before .before .before .before .before .before .before .before .before .before .before .before .before .before .before .before .before .before .before .before .before .before .before .before .before .before .before .args) .head .end)) (count ((c .before .before .before .before .before .before .before .before .before .before .before .before .before .before .before .before .before .before .before .before .before .before .before .before .before .before .before .before .before .before .before .before .before .before .before .args) .s .now) - (c .before .before .before .before .before .before .before .before .before .before .before .before .before .before .before .before .before .before .before .before .before .before .before .before .before .before .before .before .before .before .before .before .before .before .before .args) .c .at) nest) (λ f g w. refl) ((c .before .before .before .before .before .before .before .before .before .before .before .before .before .before .before .before .before .before .before .before .before .before .before .before .loop) .p) ((c .before .before .before .before .before .before .before .before .before .before .before .before .before .before .before .before .before .before .before .before .before .before .before .before .loop) .inv .0) ((c .before .before .before .before .before .before .before .before .before .before .before .before .before .before .before .before .before .before .before .before .inline-table-turn) .result .progress) ((c .before .before .before .before .before .before .before .before .before .before .before .before .before .before .before .before .before .before .before .before .inline-table-turn) .ensures) _ ((c .before .before .before .before .before .before .before .before .before .before .before .x) .given .1) ((c .before .before .before .before .before .before .before .on-array-open) .ensures) ((c .before .before .if2) .left), ((c .before .before .before .before .before .before .before .on-array-open .kept .1 .1 .1 .1 .1 .0) ∙ (c .before .before .before .before .before .before .before .before .before .before .before .before .before .before .before .before .before .before .before .before .inline-table-turn .kept .1 .1 .1 .1 .1 .1 .1 .0)) ∙ (c .before .before .before .before .before .before .before .before .before .before .before .before .before .before .before .before .before .before .before .before .before .before .before .before .loop) .inv .1, ((c .before .before .before .before .before .before .before .on-array-open .kept .1 .1 .1 .1 .1 .1 .0) ∙ (c .before .before .before .before .before .before .before .before .before .before .before .before .before .before .before .before .before .before .before .before .inline-table-turn .kept .1 .1 .1 .1 .1 .1 .1 .1 .0)) ∙ (c .before .before .before .before .before .before .before .before .before .before .before .before .before .before .before .before .before .before .before .before .before .before .before .before .loop) .inv .2, (c .before .before .before .before .before .before .before .before .before .before .before .before .before .before .before .before .before .before .before .before .before .before .before .before .loop) .inv .3)
 
 on-inline-table-open-enum-known-x-2 : (t : ℕ) → on-inline-table-open-lts.Need-enum-known-x-2 (
   emit-reads.Asked,
@@ -1011,50 +935,22 @@ on-inline-table-open-enum-known-x-2 : (t : ℕ) → on-inline-table-open-lts.Nee
   on-array-open.Post,
   on-inline-table-open-below t,
   on-inline-table-open.Post,
-)
-    (on-inline-table-open-at t)
-    on-inline-table-open.Post
-    on-inline-table-open-Inv-loop
-    on-inline-table-open-μ-loop
+) (on-inline-table-open-at t) on-inline-table-open.Post on-inline-table-open-Inv-loop on-inline-table-open-μ-loop
 on-inline-table-open-enum-known-x-2 t c = search needs
 
-on-inline-table-open-sub-on-inline-table-open :
-    (t : ℕ) → on-inline-table-open-lts.Need-sub-on-inline-table-open (
-      emit-reads.Asked,
-      emit-reads.Learnt,
-      action-table-reads.Asked,
-      action-table-reads.Learnt,
-      inline-table-turn-reads.Asked,
-      inline-table-turn-reads.Learnt,
-      on-array-open-below t,
-      on-array-open.Post,
-      on-inline-table-open-below t,
-      on-inline-table-open.Post,
-    )
-    (on-inline-table-open-at t)
-    on-inline-table-open.Post
-    on-inline-table-open-Inv-loop
-    on-inline-table-open-μ-loop
-on-inline-table-open-sub-on-inline-table-open t c = omega (arith, (c .before .before .before .before .before .before .before .before .before .before .before .before .before .before .before .before .before .before .before .before .if1) .left)
-
-on-inline-table-open-on-inline-table-open-requires :
-    (t : ℕ) → on-inline-table-open-lts.Need-on-inline-table-open-requires (
-      emit-reads.Asked,
-      emit-reads.Learnt,
-      action-table-reads.Asked,
-      action-table-reads.Learnt,
-      inline-table-turn-reads.Asked,
-      inline-table-turn-reads.Learnt,
-      on-array-open-below t,
-      on-array-open.Post,
-      on-inline-table-open-below t,
-      on-inline-table-open.Post,
-    )
-    (on-inline-table-open-at t)
-    on-inline-table-open.Post
-    on-inline-table-open-Inv-loop
-    on-inline-table-open-μ-loop
-on-inline-table-open-on-inline-table-open-requires t c κs = (omega (arith, (c .before .before .before .before .before .before .before .before .before .before .before .before .before .before .before .before .before .before .before .before .before .before .if1) .left, (c .before .before .before .before .before .before .before .before .before .before .before .before .before .before .before .before .before .before .before .before .before .before .before .before .before .before .pre) .0), (c .before .before .before .before .before .before .before .before .before .before .before .before .inline-table-turn) .ensures .good)
+on-inline-table-open-on-inline-table-open-requires : (t : ℕ) → on-inline-table-open-lts.Need-on-inline-table-open-requires (
+  emit-reads.Asked,
+  emit-reads.Learnt,
+  action-table-reads.Asked,
+  action-table-reads.Learnt,
+  inline-table-turn-reads.Asked,
+  inline-table-turn-reads.Learnt,
+  on-array-open-below t,
+  on-array-open.Post,
+  on-inline-table-open-below t,
+  on-inline-table-open.Post,
+) (on-inline-table-open-at t) on-inline-table-open.Post on-inline-table-open-Inv-loop on-inline-table-open-μ-loop
+on-inline-table-open-on-inline-table-open-requires t c κs = (omega (arith, (c .before .before .before .before .before .before .before .before .before .before .before .before .before .before .before .before .before .before .before .before .before .before .if1) .left, (c .before .before .before .before .before .before .before .before .before .before .before .before .before .before .before .before .before .before .before .before .before .before .before .before .before .before .before .pre) .0), (c .before .before .before .before .before .before .before .before .before .before .before .before .inline-table-turn) .ensures .good)
 
 on-inline-table-open-same-length-5 : (t : ℕ) → on-inline-table-open-lts.Need-same-length-5 (
   emit-reads.Asked,
@@ -1067,12 +963,8 @@ on-inline-table-open-same-length-5 : (t : ℕ) → on-inline-table-open-lts.Need
   on-array-open.Post,
   on-inline-table-open-below t,
   on-inline-table-open.Post,
-)
-    (on-inline-table-open-at t)
-    on-inline-table-open.Post
-    on-inline-table-open-Inv-loop
-    on-inline-table-open-μ-loop
-on-inline-table-open-same-length-5 t c = ((c .before .before .before .before .before .on-inline-table-open .kept .1 .1 .1 .1 .1 .0) ∙ (c .before .before .before .before .before .before .before .before .before .before .before .before .before .before .before .before .before .before .inline-table-turn .kept .1 .1 .1 .1 .1 .1 .0)) ∙ (c .before .before .before .before .before .before .before .before .before .before .before .before .before .before .before .before .before .before .before .before .before .before .loop) .inv .1 ∙ (c .before .before .before .before .before .before .before .before .before .before .before .before .before .before .before .before .before .before .before .before .before .before .before .before .before .before .emit) .kept .0
+) (on-inline-table-open-at t) on-inline-table-open.Post on-inline-table-open-Inv-loop on-inline-table-open-μ-loop
+on-inline-table-open-same-length-5 t c = ((c .before .before .before .before .before .on-inline-table-open .kept .1 .1 .1 .1 .1 .0) ∙ (c .before .before .before .before .before .before .before .before .before .before .before .before .before .before .before .before .before .before .inline-table-turn .kept .1 .1 .1 .1 .1 .1 .1 .0)) ∙ (c .before .before .before .before .before .before .before .before .before .before .before .before .before .before .before .before .before .before .before .before .before .before .loop) .inv .1 ∙ (c .before .before .before .before .before .before .before .before .before .before .before .before .before .before .before .before .before .before .before .before .before .before .before .before .before .before .emit) .kept .0
 
 on-inline-table-open-same-length-6 : (t : ℕ) → on-inline-table-open-lts.Need-same-length-6 (
   emit-reads.Asked,
@@ -1085,12 +977,8 @@ on-inline-table-open-same-length-6 : (t : ℕ) → on-inline-table-open-lts.Need
   on-array-open.Post,
   on-inline-table-open-below t,
   on-inline-table-open.Post,
-)
-    (on-inline-table-open-at t)
-    on-inline-table-open.Post
-    on-inline-table-open-Inv-loop
-    on-inline-table-open-μ-loop
-on-inline-table-open-same-length-6 t c = ((c .before .before .before .before .before .on-inline-table-open .kept .1 .1 .1 .1 .1 .1 .0) ∙ (c .before .before .before .before .before .before .before .before .before .before .before .before .before .before .before .before .before .before .inline-table-turn .kept .1 .1 .1 .1 .1 .1 .1 .0)) ∙ (c .before .before .before .before .before .before .before .before .before .before .before .before .before .before .before .before .before .before .before .before .before .before .loop) .inv .2
+) (on-inline-table-open-at t) on-inline-table-open.Post on-inline-table-open-Inv-loop on-inline-table-open-μ-loop
+on-inline-table-open-same-length-6 t c = ((c .before .before .before .before .before .on-inline-table-open .kept .1 .1 .1 .1 .1 .1 .0) ∙ (c .before .before .before .before .before .before .before .before .before .before .before .before .before .before .before .before .before .before .inline-table-turn .kept .1 .1 .1 .1 .1 .1 .1 .1 .0)) ∙ (c .before .before .before .before .before .before .before .before .before .before .before .before .before .before .before .before .before .before .before .before .before .before .loop) .inv .2
 
 on-inline-table-open-returns-4 : (t : ℕ) → on-inline-table-open-lts.Need-returns-4 (
   emit-reads.Asked,
@@ -1103,12 +991,8 @@ on-inline-table-open-returns-4 : (t : ℕ) → on-inline-table-open-lts.Need-ret
   on-array-open.Post,
   on-inline-table-open-below t,
   on-inline-table-open.Post,
-)
-    (on-inline-table-open-at t)
-    on-inline-table-open.Post
-    on-inline-table-open-Inv-loop
-    on-inline-table-open-μ-loop
-on-inline-table-open-returns-4 t c = nested-as (open-table ((c .before .before .before .before .before .before .before .before .before .before .before .before .before .before .before .before .before .before .before .before .before .before .before .before .before .before .before .before .before .before .before .before .args) .levels) _ _ _ ((c .before .before .before .before .before .before .before .before .before .before .before .before .before .before .before .before .before .before .before .before .before .before .before .before .before .before .before .before .if1) .left)) (nested-item _ _ (λ all. (c .before .before .before .before .before .before .before .before .before .before .before .before .before .before .before .before .before .before .before .before .before .before .before .before .before .before .emit) .ensures all _) (table-stop (onOpen ((c .before .before .before .before .before .before .before .before .before .before .before .before .before .before .before .before .before .before .before .before .before .before .before .before .before .before .before .before .before .before .before .before .args) .levels - 1)) (λ nest. inlineTableTurn (span ((c .before .before .before .before .before .before .before .before .before .before .before .before .before .before .before .before .before .before .before .before .before .before .before .before .before .before .before .before .before .before .before .before .args) .head .start) ((c .before .before .before .before .before .before .before .before .before .before .before .before .before .before .before .before .before .before .before .before .before .before .before .before .before .before .before .before .before .before .before .before .args) .head .end)) nest) (λ f g w. refl) ((c .before .before .before .before .before .before .before .before .before .before .before .before .before .before .before .before .before .before .before .before .before .before .loop) .p) ((c .before .before .before .before .before .before .before .before .before .before .before .before .before .before .before .before .before .before .before .before .before .before .loop) .inv .0) ((c .before .before .before .before .before .before .before .before .before .before .before .before .before .before .before .before .before .before .inline-table-turn) .result .progress) ((c .before .before .before .before .before .before .before .before .before .before .before .before .before .before .before .before .before .before .inline-table-turn) .ensures) _ ((c .before .before .before .before .before .before .before .before .before .x2) .given .1) ((c .before .before .before .before .before .on-inline-table-open) .ensures) ((c .if3) .taken)))
+) (on-inline-table-open-at t) on-inline-table-open.Post on-inline-table-open-Inv-loop on-inline-table-open-μ-loop
+on-inline-table-open-returns-4 t c = nested-as (open-table _ _ ((c .before .before .before .before .before .before .before .before .before .before .before .before .before .before .before .before .before .before .before .before .before .before .before .before .before .before .before .before .before .before .before .before .before .args) .settings .levels) _ _ ((c .before .before .before .before .before .before .before .before .before .before .before .before .before .before .before .before .before .before .before .before .before .before .before .before .before .before .before .before .if1) .left)) (nested-item _ _ (λ all. (c .before .before .before .before .before .before .before .before .before .before .before .before .before .before .before .before .before .before .before .before .before .before .before .before .before .before .emit) .ensures all _) (table-stop (onOpen ((c .before .before .before .before .before .before .before .before .before .before .before .before .before .before .before .before .before .before .before .before .before .before .before .before .before .before .before .before .before .before .before .before .before .args) .settings .levels - 1)) (λ nest. inlineTableTurn (span ((c .before .before .before .before .before .before .before .before .before .before .before .before .before .before .before .before .before .before .before .before .before .before .before .before .before .before .before .before .before .before .before .before .before .args) .head .start) ((c .before .before .before .before .before .before .before .before .before .before .before .before .before .before .before .before .before .before .before .before .before .before .before .before .before .before .before .before .before .before .before .before .before .args) .head .end)) (count ((c .before .before .before .before .before .before .before .before .before .before .before .before .before .before .before .before .before .before .before .before .before .before .before .before .before .before .before .before .before .before .before .before .before .args) .s .now) - (c .before .before .before .before .before .before .before .before .before .before .before .before .before .before .before .before .before .before .before .before .before .before .before .before .before .before .before .before .before .before .before .before .before .args) .c .at) nest) (λ f g w. refl) ((c .before .before .before .before .before .before .before .before .before .before .before .before .before .before .before .before .before .before .before .before .before .before .loop) .p) ((c .before .before .before .before .before .before .before .before .before .before .before .before .before .before .before .before .before .before .before .before .before .before .loop) .inv .0) ((c .before .before .before .before .before .before .before .before .before .before .before .before .before .before .before .before .before .before .inline-table-turn) .result .progress) ((c .before .before .before .before .before .before .before .before .before .before .before .before .before .before .before .before .before .before .inline-table-turn) .ensures) _ ((c .before .before .before .before .before .before .before .before .before .x2) .given .1) ((c .before .before .before .before .before .on-inline-table-open) .ensures) ((c .if3) .taken)))
 
 on-inline-table-open-loop-less-3 : (t : ℕ) → on-inline-table-open-lts.Need-loop-less-3 (
   emit-reads.Asked,
@@ -1121,12 +1005,8 @@ on-inline-table-open-loop-less-3 : (t : ℕ) → on-inline-table-open-lts.Need-l
   on-array-open.Post,
   on-inline-table-open-below t,
   on-inline-table-open.Post,
-)
-    (on-inline-table-open-at t)
-    on-inline-table-open.Post
-    on-inline-table-open-Inv-loop
-    on-inline-table-open-μ-loop
-on-inline-table-open-loop-less-3 t c = omega (arith, table-moved (onOpen ((c .before .before .before .before .before .before .before .before .before .before .before .before .before .before .before .before .before .before .before .before .before .before .before .before .before .before .before .before .before .before .before .before .before .before .args) .levels - 1)) (λ nest. inlineTableTurn (span ((c .before .before .before .before .before .before .before .before .before .before .before .before .before .before .before .before .before .before .before .before .before .before .before .before .before .before .before .before .before .before .before .before .before .before .args) .head .start) ((c .before .before .before .before .before .before .before .before .before .before .before .before .before .before .before .before .before .before .before .before .before .before .before .before .before .before .before .before .before .before .before .before .before .before .args) .head .end)) nest) (λ f g w. refl) ((c .before .before .before .before .before .before .before .before .before .before .before .before .before .before .before .before .before .before .before .before .before .before .before .before .loop) .p) ((c .before .before .before .before .before .before .before .before .before .before .before .before .before .before .before .before .before .before .before .before .before .before .before .before .loop) .inv .0) ((c .before .before .before .before .before .before .before .before .before .before .before .before .before .before .before .before .before .before .before .before .inline-table-turn) .result .progress) ((c .before .before .before .before .before .before .before .before .before .before .before .before .before .before .before .before .before .before .before .before .inline-table-turn) .ensures) _ ((c .before .before .before .before .before .before .before .before .before .before .before .x2) .given .1), (c .before .before .before .before .before .before .before .on-inline-table-open) .ensures .on, (c .before .before .before .before .before .before .before .on-inline-table-open) .ensures .good .low)
+) (on-inline-table-open-at t) on-inline-table-open.Post on-inline-table-open-Inv-loop on-inline-table-open-μ-loop
+on-inline-table-open-loop-less-3 t c = omega (arith, table-moved (onOpen ((c .before .before .before .before .before .before .before .before .before .before .before .before .before .before .before .before .before .before .before .before .before .before .before .before .before .before .before .before .before .before .before .before .before .before .before .args) .settings .levels - 1)) (λ nest. inlineTableTurn (span ((c .before .before .before .before .before .before .before .before .before .before .before .before .before .before .before .before .before .before .before .before .before .before .before .before .before .before .before .before .before .before .before .before .before .before .before .args) .head .start) ((c .before .before .before .before .before .before .before .before .before .before .before .before .before .before .before .before .before .before .before .before .before .before .before .before .before .before .before .before .before .before .before .before .before .before .before .args) .head .end)) (count ((c .before .before .before .before .before .before .before .before .before .before .before .before .before .before .before .before .before .before .before .before .before .before .before .before .before .before .before .before .before .before .before .before .before .before .before .args) .s .now) - (c .before .before .before .before .before .before .before .before .before .before .before .before .before .before .before .before .before .before .before .before .before .before .before .before .before .before .before .before .before .before .before .before .before .before .before .args) .c .at) nest) (λ f g w. refl) ((c .before .before .before .before .before .before .before .before .before .before .before .before .before .before .before .before .before .before .before .before .before .before .before .before .loop) .p) ((c .before .before .before .before .before .before .before .before .before .before .before .before .before .before .before .before .before .before .before .before .before .before .before .before .loop) .inv .0) ((c .before .before .before .before .before .before .before .before .before .before .before .before .before .before .before .before .before .before .before .before .inline-table-turn) .result .progress) ((c .before .before .before .before .before .before .before .before .before .before .before .before .before .before .before .before .before .before .before .before .inline-table-turn) .ensures) _ ((c .before .before .before .before .before .before .before .before .before .before .before .x2) .given .1), (c .before .before .before .before .before .before .before .on-inline-table-open) .ensures .on, (c .before .before .before .before .before .before .before .on-inline-table-open) .ensures .good .low)
 
 on-inline-table-open-loop-again-3 : (t : ℕ) → on-inline-table-open-lts.Need-loop-again-3 (
   emit-reads.Asked,
@@ -1139,16 +1019,13 @@ on-inline-table-open-loop-again-3 : (t : ℕ) → on-inline-table-open-lts.Need-
   on-array-open.Post,
   on-inline-table-open-below t,
   on-inline-table-open.Post,
-)
-    (on-inline-table-open-at t)
-    on-inline-table-open.Post
-    on-inline-table-open-Inv-loop
-    on-inline-table-open-μ-loop
-on-inline-table-open-loop-again-3 t c = (table-again (onOpen ((c .before .before .before .before .before .before .before .before .before .before .before .before .before .before .before .before .before .before .before .before .before .before .before .before .before .before .before .before .before .before .before .before .before .before .args) .levels - 1)) (λ nest. inlineTableTurn (span ((c .before .before .before .before .before .before .before .before .before .before .before .before .before .before .before .before .before .before .before .before .before .before .before .before .before .before .before .before .before .before .before .before .before .before .args) .head .start) ((c .before .before .before .before .before .before .before .before .before .before .before .before .before .before .before .before .before .before .before .before .before .before .before .before .before .before .before .before .before .before .before .before .before .before .args) .head .end)) nest) (λ f g w. refl) ((c .before .before .before .before .before .before .before .before .before .before .before .before .before .before .before .before .before .before .before .before .before .before .before .before .loop) .p) ((c .before .before .before .before .before .before .before .before .before .before .before .before .before .before .before .before .before .before .before .before .before .before .before .before .loop) .inv .0) ((c .before .before .before .before .before .before .before .before .before .before .before .before .before .before .before .before .before .before .before .before .inline-table-turn) .result .progress) ((c .before .before .before .before .before .before .before .before .before .before .before .before .before .before .before .before .before .before .before .before .inline-table-turn) .ensures) _ ((c .before .before .before .before .before .before .before .before .before .before .before .x2) .given .1) ((c .before .before .before .before .before .before .before .on-inline-table-open) .ensures) ((c .before .before .if3) .left), ((c .before .before .before .before .before .before .before .on-inline-table-open .kept .1 .1 .1 .1 .1 .0) ∙ (c .before .before .before .before .before .before .before .before .before .before .before .before .before .before .before .before .before .before .before .before .inline-table-turn .kept .1 .1 .1 .1 .1 .1 .0)) ∙ (c .before .before .before .before .before .before .before .before .before .before .before .before .before .before .before .before .before .before .before .before .before .before .before .before .loop) .inv .1, ((c .before .before .before .before .before .before .before .on-inline-table-open .kept .1 .1 .1 .1 .1 .1 .0) ∙ (c .before .before .before .before .before .before .before .before .before .before .before .before .before .before .before .before .before .before .before .before .inline-table-turn .kept .1 .1 .1 .1 .1 .1 .1 .0)) ∙ (c .before .before .before .before .before .before .before .before .before .before .before .before .before .before .before .before .before .before .before .before .before .before .before .before .loop) .inv .2, (c .before .before .before .before .before .before .before .before .before .before .before .before .before .before .before .before .before .before .before .before .before .before .before .before .loop) .inv .3)
+) (on-inline-table-open-at t) on-inline-table-open.Post on-inline-table-open-Inv-loop on-inline-table-open-μ-loop
+on-inline-table-open-loop-again-3 t c = (table-again (onOpen ((c .before .before .before .before .before .before .before .before .before .before .before .before .before .before .before .before .before .before .before .before .before .before .before .before .before .before .before .before .before .before .before .before .before .before .before .args) .settings .levels - 1)) (λ nest. inlineTableTurn (span ((c .before .before .before .before .before .before .before .before .before .before .before .before .before .before .before .before .before .before .before .before .before .before .before .before .before .before .before .before .before .before .before .before .before .before .before .args) .head .start) ((c .before .before .before .before .before .before .before .before .before .before .before .before .before .before .before .before .before .before .before .before .before .before .before .before .before .before .before .before .before .before .before .before .before .before .before .args) .head .end)) (count ((c .before .before .before .before .before .before .before .before .before .before .before .before .before .before .before .before .before .before .before .before .before .before .before .before .before .before .before .before .before .before .before .before .before .before .before .args) .s .now) - (c .before .before .before .before .before .before .before .before .before .before .before .before .before .before .before .before .before .before .before .before .before .before .before .before .before .before .before .before .before .before .before .before .before .before .before .args) .c .at) nest) (λ f g w. refl) ((c .before .before .before .before .before .before .before .before .before .before .before .before .before .before .before .before .before .before .before .before .before .before .before .before .loop) .p) ((c .before .before .before .before .before .before .before .before .before .before .before .before .before .before .before .before .before .before .before .before .before .before .before .before .loop) .inv .0) ((c .before .before .before .before .before .before .before .before .before .before .before .before .before .before .before .before .before .before .before .before .inline-table-turn) .result .progress) ((c .before .before .before .before .before .before .before .before .before .before .before .before .before .before .before .before .before .before .before .before .inline-table-turn) .ensures) _ ((c .before .before .before .before .before .before .before .before .before .before .before .x2) .given .1) ((c .before .before .before .before .before .before .before .on-inline-table-open) .ensures) ((c .before .before .if3) .left), ((c .before .before .before .before .before .before .before .on-inline-table-open .kept .1 .1 .1 .1 .1 .0) ∙ (c .before .before .before .before .before .before .before .before .before .before .before .before .before .before .before .before .before .before .before .before .inline-table-turn .kept .1 .1 .1 .1 .1 .1 .1 .0)) ∙ (c .before .before .before .before .before .before .before .before .before .before .before .before .before .before .before .before .before .before .before .before .before .before .before .before .loop) .inv .1, ((c .before .before .before .before .before .before .before .on-inline-table-open .kept .1 .1 .1 .1 .1 .1 .0) ∙ (c .before .before .before .before .before .before .before .before .before .before .before .before .before .before .before .before .before .before .before .before .inline-table-turn .kept .1 .1 .1 .1 .1 .1 .1 .1 .0)) ∙ (c .before .before .before .before .before .before .before .before .before .before .before .before .before .before .before .before .before .before .before .before .before .before .before .before .loop) .inv .2, (c .before .before .before .before .before .before .before .before .before .before .before .before .before .before .before .before .before .before .before .before .before .before .before .before .loop) .inv .3)
 
 pub +on-array-open+on-inline-table-open-spec : {M : Type 1} → statement M
 +on-array-open+on-inline-table-open-spec =
-    close μ-on-array-open μ-on-inline-table-open (λ t. on-array-open-lts.spec (
+    close μ-on-array-open μ-on-inline-table-open
+    (λ t. on-array-open-lts.spec (
       emit-reads.Asked,
       emit-reads.Learnt,
       array-turns-reads.Asked,
@@ -1175,11 +1052,13 @@ pub +on-array-open+on-inline-table-open-spec : {M : Type 1} → statement M
     (on-array-open-same-length-2 t)
     (on-array-open-returns-2 t)
     (on-array-open-sub-depth t)
-    (on-array-open-add-left t)
-    (on-array-open-mul-t40 t)
+    (on-array-open-sub-left-2 t)
+    (on-array-open-cast-left t)
+    (on-array-open-sub-left-3 t)
+    (on-array-open-mul-t46 t)
     (on-array-open-array-read-t43 t)
-    (on-array-open-mul-t44 t)
-    (on-array-open-array-read-t47 t)
+    (on-array-open-mul-t49 t)
+    (on-array-open-array-read-t44 t)
     (on-array-open-loop-less-2 t)
     (on-array-open-loop-again-2 t)
     (on-array-open-enum-known-x t)
@@ -1191,7 +1070,7 @@ pub +on-array-open+on-inline-table-open-spec : {M : Type 1} → statement M
     (on-array-open-mul-ends t)
     (on-array-open-array-write-ends t)
     (on-array-open-add-depth t)
-    (on-array-open-sub-left-2 t)
+    (on-array-open-sub-left-4 t)
     (on-array-open-emit-requires-2 t)
     (on-array-open-loop-less-3 t)
     (on-array-open-loop-again-3 t)
@@ -1227,6 +1106,7 @@ pub +on-array-open+on-inline-table-open-spec : {M : Type 1} → statement M
     (on-inline-table-open-returns t)
     (on-inline-table-open-emit-requires t)
     (on-inline-table-open-action-table-requires t)
+    (on-inline-table-open-sub-t36 t)
     (on-inline-table-open-loop-holds t)
     (on-inline-table-open-inline-table-turn-requires t)
     (on-inline-table-open-enum-told t)
@@ -1237,7 +1117,6 @@ pub +on-array-open+on-inline-table-open-spec : {M : Type 1} → statement M
     (on-inline-table-open-same-length-2 t)
     (on-inline-table-open-returns-2 t)
     (on-inline-table-open-enum-known-x t)
-    (on-inline-table-open-sub-on-array-open t)
     (on-inline-table-open-on-array-open-requires t)
     (on-inline-table-open-same-length-3 t)
     (on-inline-table-open-same-length-4 t)
@@ -1245,7 +1124,6 @@ pub +on-array-open+on-inline-table-open-spec : {M : Type 1} → statement M
     (on-inline-table-open-loop-less-2 t)
     (on-inline-table-open-loop-again-2 t)
     (on-inline-table-open-enum-known-x-2 t)
-    (on-inline-table-open-sub-on-inline-table-open t)
     (on-inline-table-open-on-inline-table-open-requires t)
     (on-inline-table-open-same-length-5 t)
     (on-inline-table-open-same-length-6 t)

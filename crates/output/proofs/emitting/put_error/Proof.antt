@@ -67,6 +67,15 @@ mul-errors-6 c = omega (arith, (c .before .before .good) .0 .1, (c .before .if1)
 slice-write-errors-6 : tie.Need-slice-write-errors-6
 slice-write-errors-6 c = simp length-set (omega arith)
 
+add-errors-6 : tie.Need-add-errors-6
+add-errors-6 c = omega (arith, (c .before .before .good) .0 .1, (c .before .if1) .taken)
+
+mul-errors-7 : tie.Need-mul-errors-7
+mul-errors-7 c = omega (arith, (c .before .before .good) .0 .1, (c .before .if1) .taken)
+
+slice-write-errors-7 : tie.Need-slice-write-errors-7
+slice-write-errors-7 c = simp length-set (omega arith)
+
 same-length : tie.Need-same-length
 same-length c = search needs
 
@@ -105,6 +114,9 @@ put-error-spec =
     add-errors-5
     mul-errors-6
     slice-write-errors-6
+    add-errors-6
+    mul-errors-7
+    slice-write-errors-7
     same-length
     returns
     returns-2

@@ -5,7 +5,7 @@ use Rattle.text_rules.proofs.room.text_counts_are_at_most.Statement.{st
 use Rattle.text_rules.proofs.room.text_counts_are_at_most.Tie as tie
 
 returns : tie.Need-returns
-returns c = text-counts-most ((c .args) .text .now) ((c .args) .records .now) ((c .args) .events .now) ((c .args) .errors .now)
+returns c = λ options. text-counts-most options ((c .args) .text .now) ((c .args) .records .now) ((c .args) .events .now) ((c .args) .errors .now)
 
 pub text-counts-are-at-most-spec : {M : Type 1} → statement M
 text-counts-are-at-most-spec =

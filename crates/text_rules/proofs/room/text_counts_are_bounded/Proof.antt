@@ -5,7 +5,7 @@ use Rattle.text_rules.proofs.room.text_counts_are_bounded.Statement.{st
 use Rattle.text_rules.proofs.room.text_counts_are_bounded.Tie as tie
 
 returns : tie.Need-returns
-returns c = text-counts-within ((c .args) .text .now) ((c .args) .records .now) ((c .args) .events .now) ((c .args) .errors .now)
+returns c = λ options. text-counts-within options ((c .args) .text .now) ((c .args) .records .now) ((c .args) .events .now) ((c .args) .errors .now)
 
 pub text-counts-are-bounded-spec : {M : Type 1} → statement M
 text-counts-are-bounded-spec =

@@ -5,7 +5,7 @@ use Rattle.text_rules.proofs.theorems.text_answers_are_determined.State
 use Rattle.text_rules.proofs.theorems.text_answers_are_determined.Tie as tie
 
 returns : tie.Need-returns
-returns c = λ x y p q. p ∙ sym q
+returns c = λ options x y p q. p ∙ sym q
 
 pub text-answers-are-determined-spec : {M : Type 1} → statement M
 text-answers-are-determined-spec =

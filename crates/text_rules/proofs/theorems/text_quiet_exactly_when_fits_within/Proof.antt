@@ -28,13 +28,13 @@ same-length : tie.Need-same-length
 same-length c = search needs
 
 returns : tie.Need-returns
-returns c = exactly-within-of ((c .before .before .before .before .before .before .before .before .before .before .before .before .args) .text .now) ((c .before .before .before .before .before .before .before .before .before .before .before .before .args) .records .now) ((c .before .before .before .before .before .before .before .before .before .before .before .before .args) .events .now) ((c .before .before .before .before .before .before .before .before .before .before .before .before .args) .errors .now) _ _ ((c .before .before .before .before .before .before .lex) .ensures) ((c .before .before .before .if1) .taken) ((c .quiet-exactly-when-fits-within) .ensures)
+returns c = λ options. exactly-within-of options ((c .before .before .before .before .before .before .before .before .before .before .before .before .args) .text .now) ((c .before .before .before .before .before .before .before .before .before .before .before .before .args) .records .now) ((c .before .before .before .before .before .before .before .before .before .before .before .before .args) .events .now) ((c .before .before .before .before .before .before .before .before .before .before .before .before .args) .errors .now) _ _ ((c .before .before .before .before .before .before .lex) .ensures) ((c .before .before .before .if1) .taken) ((c .quiet-exactly-when-fits-within) .ensures options)
 
 same-length-2 : tie.Need-same-length-2
 same-length-2 c = search needs
 
 returns-2 : tie.Need-returns-2
-returns-2 c = λ q. absurd (refused-unready ((c .before .before .before .before .before .before .before .before .before .args) .text .now) ((c .before .before .before .before .before .before .before .before .before .args) .records .now) ((c .before .before .before .before .before .before .before .before .before .args) .events .now) ((c .before .before .before .before .before .before .before .before .before .args) .errors .now) _ _ ((c .before .before .before .lex) .ensures) ((c .if1) .left) q)
+returns-2 c = λ options q. absurd (refused-unready options ((c .before .before .before .before .before .before .before .before .before .args) .text .now) ((c .before .before .before .before .before .before .before .before .before .args) .records .now) ((c .before .before .before .before .before .before .before .before .before .args) .events .now) ((c .before .before .before .before .before .before .before .before .before .args) .errors .now) _ _ ((c .before .before .before .lex) .ensures) ((c .if1) .left) q)
 
 pub text-quiet-exactly-when-fits-within-spec : {M : Type 1} → statement M
 text-quiet-exactly-when-fits-within-spec =

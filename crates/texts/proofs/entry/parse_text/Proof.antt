@@ -14,13 +14,13 @@ same-length : tie.Need-same-length
 same-length c = search needs
 
 returns : tie.Need-returns
-returns c = text-refused ((c .before .before .before .before .before .before .before .before .before .args) .text .now) ((c .before .before .before .before .before .before .before .before .before .args) .records .now) ((c .before .before .before .before .before .before .before .before .before .args) .events .now) ((c .before .before .before .before .before .before .before .before .before .args) .errors .now) _ _ ((c .before .before .before .lex) .ensures) ((c .if1) .taken)
+returns c = text-refused ((c .before .before .before .before .before .before .before .before .before .args) .text .now) ((c .before .before .before .before .before .before .before .before .before .args) .records .now) ((c .before .before .before .before .before .before .before .before .before .args) .events .now) ((c .before .before .before .before .before .before .before .before .before .args) .errors .now) _ _ ((c .before .before .before .lex) .ensures) ((c .before .before .before .before .before .before .before .before .before .args) .options) ((c .if1) .taken)
 
 same-length-2 : tie.Need-same-length-2
 same-length-2 c = search needs
 
 returns-2 : tie.Need-returns-2
-returns-2 c = text-many ((c .before .before .before .before .before .before .before .before .before .before .args) .text .now) ((c .before .before .before .before .before .before .before .before .before .before .args) .records .now) ((c .before .before .before .before .before .before .before .before .before .before .args) .events .now) ((c .before .before .before .before .before .before .before .before .before .before .args) .errors .now) _ _ ((c .before .before .before .before .lex) .ensures) ((c .before .if1) .left) ((c .if2) .taken)
+returns-2 c = text-many ((c .before .before .before .before .before .before .before .before .before .before .args) .text .now) ((c .before .before .before .before .before .before .before .before .before .before .args) .records .now) ((c .before .before .before .before .before .before .before .before .before .before .args) .events .now) ((c .before .before .before .before .before .before .before .before .before .before .args) .errors .now) _ _ ((c .before .before .before .before .lex) .ensures) ((c .before .if1) .left) ((c .before .before .before .before .before .before .before .before .before .before .args) .options) ((c .if2) .taken)
 
 mul-size : tie.Need-mul-size
 mul-size c = search needs
@@ -44,7 +44,7 @@ same-length-5 : tie.Need-same-length-5
 same-length-5 c = search needs
 
 returns-3 : tie.Need-returns-3
-returns-3 c = text-read ((c .before .before .before .before .before .before .before .before .before .before .before .before .before .before .before .before .before .before .args) .text .now) ((c .before .before .before .before .before .before .before .before .before .before .before .before .before .before .before .before .before .before .args) .records .now) ((c .before .before .before .before .before .before .before .before .before .before .before .before .before .before .before .before .before .before .args) .events .now) ((c .before .before .before .before .before .before .before .before .before .before .before .before .before .before .before .before .before .before .args) .errors .now) _ _ ((c .before .before .before .before .before .before .before .before .before .before .before .before .lex) .ensures) ((c .before .before .before .before .before .before .before .before .before .if1) .left) _ _ _ ((c .before .before .before .before .read-document) .ensures)
+returns-3 c = text-read ((c .before .before .before .before .before .before .before .before .before .before .before .before .before .before .before .before .before .before .args) .text .now) ((c .before .before .before .before .before .before .before .before .before .before .before .before .before .before .before .before .before .before .args) .records .now) ((c .before .before .before .before .before .before .before .before .before .before .before .before .before .before .before .before .before .before .args) .events .now) ((c .before .before .before .before .before .before .before .before .before .before .before .before .before .before .before .before .before .before .args) .errors .now) _ _ ((c .before .before .before .before .before .before .before .before .before .before .before .before .lex) .ensures) ((c .before .before .before .before .before .before .before .before .before .if1) .left) ((c .before .before .before .before .before .before .before .before .before .before .before .before .before .before .before .before .before .before .args) .options) _ _ _ ((c .before .before .before .before .read-document) .ensures)
 
 pub parse-text-spec : {M : Type 1} → statement M
 parse-text-spec =

@@ -22,12 +22,12 @@ use Rattle.values.proofs.value.value.Statement.{statement}
 use Rattle.values.proofs.value.value.Tie as tie
 
 abbrev Inv-loop : tie.InvT-loop
-Inv-loop s levels events₀ errors₀ cur₀ n₀ events errors cur n =
-    Looped s (value levels (tokensAt s cur)) (value levels (tokensAt s cur₀)) (bufs events errors n) (bufs events₀ errors₀ n₀) cur cur₀
+Inv-loop s settings events₀ errors₀ cur₀ n₀ events errors cur n =
+    Looped s (value (settings .levels) (tokensAt s cur)) (value (settings .levels) (tokensAt s cur₀)) (bufs events errors n) (bufs events₀ errors₀ n₀) cur cur₀
     × (length events ≡ length events₀) × (length errors ≡ length errors₀)
 
 abbrev μ-loop : tie.MeasureT-loop
-μ-loop s levels events₀ errors₀ cur₀ n₀ events errors cur n = count s - cur .at
+μ-loop s settings events₀ errors₀ cur₀ n₀ events errors cur n = count s - cur .at
 
 loop-holds : tie.Need-loop-holds Inv-loop μ-loop
 loop-holds c = (begun _ _ _ _ (c .before .before .before .pre), refl, refl)
@@ -56,7 +56,7 @@ same-length-2 c = ((c .before .before .before .nothing-left .kept .1 .1 .1 .1 .1
 returns : tie.Need-returns Inv-loop μ-loop
 returns c =
     nested-same ((c .unstopped) .ensures)
-    (nested-goes (finish ((c .before .before .before .before .before .before .before .before .loop) .inv .0) _ _ _ (at-end _ _ _ _ (value ((c .before .before .before .before .before .before .before .before .before .before .before .before .args) .levels)) (λ ts. nothingLeft message.missingValue expected.aValue ▹ done ts) (told-done _ _ _ ((c .before .before .before .before .before .before .before .next) .ensures) ((c .before .before .before .before .before .enum-told) .given .1)) refl ∙ first-item _ _ _ _ _ ((c .before .before .before .nothing-left) .ensures _ _ (((c .before .before .before .before .before .before .before .before .loop) .inv .0) .base)) ∙ run-done _ _ _ _ _ _) (omega arith) refl (((c .before .before .before .before .before .before .before .before .loop) .inv .0) .good)))
+    (nested-goes (finish ((c .before .before .before .before .before .before .before .before .loop) .inv .0) _ _ _ (at-end _ _ _ _ (value ((c .before .before .before .before .before .before .before .before .before .before .before .before .args) .settings .levels)) (λ ts. nothingLeft message.missingValue expected.aValue ▹ done ts) (told-done _ _ _ ((c .before .before .before .before .before .before .before .next) .ensures) ((c .before .before .before .before .before .enum-told) .given .1)) refl ∙ first-item _ _ _ _ _ ((c .before .before .before .nothing-left) .ensures _ _ (((c .before .before .before .before .before .before .before .before .loop) .inv .0) .base)) ∙ run-done _ _ _ _ _ _) (omega arith) refl (((c .before .before .before .before .before .before .before .before .loop) .inv .0) .good)))
 
 in-value-requires : tie.Need-in-value-requires Inv-loop μ-loop
 in-value-requires c κs = search needs
@@ -82,7 +82,7 @@ same-length-4 c = (refl) ∙ (c .before .before .before .before .before .before 
 returns-2 : tie.Need-returns-2 Inv-loop μ-loop
 returns-2 c =
     nested-same ((c .unstopped2) .ensures)
-    (nested-goes (finish ((c .before .before .before .before .before .before .before .before .before .before .before .before .before .loop) .inv .0) _ _ _ ((value-at _ _ _ _ (told _ _ _ _ _ ((c .before .before .before .before .before .before .before .before .before .before .before .before .next) .ensures) ((c .before .before .before .before .before .before .before .before .before .before .step) .given .1)) _ _ ((c .before .before .before .before .before .before .before .before .in-value) .ensures) ((c .before .before .before .before .before .before .enum-told2) .given .1) _ _ ((c .before .before .before .before .before .before .before .before .before .before .before .before .before .before .before .before .before .args) .levels)) ∙ ((first-item _ _ _ _ _ (c .before .before .before .before .emit .ensures _ _))) ∙ back-at _ _ _ _ _ _ _ (((c .before .before .before .before .before .before .before .before .before .before .before .before .before .loop) .inv .0) .good) (told _ _ _ _ _ ((c .before .before .before .before .before .before .before .before .before .before .before .before .next) .ensures) ((c .before .before .before .before .before .before .before .before .before .before .step) .given .1)) ((c .before .back) .ensures) ∙ run-done _ _ _ _ _ _) (omega (arith, (c .before .back) .ensures .on, (told _ _ _ _ _ ((c .before .before .before .before .before .before .before .before .before .before .before .before .next) .ensures) ((c .before .before .before .before .before .before .before .before .before .before .step) .given .1)) .on)) ((c .before .back) .ensures .base ∙ (told _ _ _ _ _ ((c .before .before .before .before .before .before .before .before .before .before .before .before .next) .ensures) ((c .before .before .before .before .before .before .before .before .before .before .step) .given .1)) .base) ((c .before .back) .ensures .good)))
+    (nested-goes (finish ((c .before .before .before .before .before .before .before .before .before .before .before .before .before .loop) .inv .0) _ _ _ ((value-at _ _ _ _ (told _ _ _ _ _ ((c .before .before .before .before .before .before .before .before .before .before .before .before .next) .ensures) ((c .before .before .before .before .before .before .before .before .before .before .step) .given .1)) _ _ ((c .before .before .before .before .before .before .before .before .in-value) .ensures) ((c .before .before .before .before .before .before .enum-told2) .given .1) _ _ ((c .before .before .before .before .before .before .before .before .before .before .before .before .before .before .before .before .before .args) .settings .levels)) ∙ ((first-item _ _ _ _ _ (c .before .before .before .before .emit .ensures _ _))) ∙ back-at _ _ _ _ _ _ _ (((c .before .before .before .before .before .before .before .before .before .before .before .before .before .loop) .inv .0) .good) (told _ _ _ _ _ ((c .before .before .before .before .before .before .before .before .before .before .before .before .next) .ensures) ((c .before .before .before .before .before .before .before .before .before .before .step) .given .1)) ((c .before .back) .ensures) ∙ run-done _ _ _ _ _ _) (omega (arith, (c .before .back) .ensures .on, (told _ _ _ _ _ ((c .before .before .before .before .before .before .before .before .before .before .before .before .next) .ensures) ((c .before .before .before .before .before .before .before .before .before .before .step) .given .1)) .on)) ((c .before .back) .ensures .base ∙ (told _ _ _ _ _ ((c .before .before .before .before .before .before .before .before .before .before .before .before .next) .ensures) ((c .before .before .before .before .before .before .before .before .before .before .step) .given .1)) .base) ((c .before .back) .ensures .good)))
 
 enum-told-3 : tie.Need-enum-told-3 Inv-loop μ-loop
 enum-told-3 c = search needs
@@ -97,7 +97,7 @@ loop-less : tie.Need-loop-less Inv-loop μ-loop
 loop-less c = omega (arith, (told _ _ _ _ _ ((c .before .before .before .before .before .before .before .before .before .before .before .before .before .before .next) .ensures) ((c .before .before .before .before .before .before .before .before .before .before .before .before .step) .given .1)) .left, (told _ _ _ _ _ ((c .before .before .before .before .before .before .before .before .before .before .before .before .before .before .next) .ensures) ((c .before .before .before .before .before .before .before .before .before .before .before .before .step) .given .1)) .on)
 
 loop-again : tie.Need-loop-again Inv-loop μ-loop
-loop-again c = (again ((c .before .before .before .before .before .before .before .before .before .before .before .before .before .before .before .loop) .inv .0) _ _ _ ((value-at _ _ _ _ (told _ _ _ _ _ ((c .before .before .before .before .before .before .before .before .before .before .before .before .before .before .next) .ensures) ((c .before .before .before .before .before .before .before .before .before .before .before .before .step) .given .1)) _ _ ((c .before .before .before .before .before .before .before .before .before .before .in-value) .ensures) ((c .before .before .before .before .before .before .before .before .enum-told3) .given .1) _ _ ((c .before .before .before .before .before .before .before .before .before .before .before .before .before .before .before .before .before .before .before .args) .levels)) ∙ ((first-item _ _ _ _ _ (c .before .before .before .before .before .before .report-at .ensures _ _)) ∙ (first-item _ _ _ _ _ (c .before .before .emit2 .ensures _ _)))) (omega (arith, (told _ _ _ _ _ ((c .before .before .before .before .before .before .before .before .before .before .before .before .before .before .next) .ensures) ((c .before .before .before .before .before .before .before .before .before .before .before .before .step) .given .1)) .on)) ((told _ _ _ _ _ ((c .before .before .before .before .before .before .before .before .before .before .before .before .before .before .next) .ensures) ((c .before .before .before .before .before .before .before .before .before .before .before .before .step) .given .1)) .base) ((told _ _ _ _ _ ((c .before .before .before .before .before .before .before .before .before .before .before .before .before .before .next) .ensures) ((c .before .before .before .before .before .before .before .before .before .before .before .before .step) .given .1)) .good), ((c .before .before .emit2 .kept .0)) ∙ (c .before .before .before .before .before .before .before .before .before .before .before .before .before .before .before .loop) .inv .1, ((c .before .before .before .before .before .before .report-at .kept .0)) ∙ (c .before .before .before .before .before .before .before .before .before .before .before .before .before .before .before .loop) .inv .2)
+loop-again c = (again ((c .before .before .before .before .before .before .before .before .before .before .before .before .before .before .before .loop) .inv .0) _ _ _ ((value-at _ _ _ _ (told _ _ _ _ _ ((c .before .before .before .before .before .before .before .before .before .before .before .before .before .before .next) .ensures) ((c .before .before .before .before .before .before .before .before .before .before .before .before .step) .given .1)) _ _ ((c .before .before .before .before .before .before .before .before .before .before .in-value) .ensures) ((c .before .before .before .before .before .before .before .before .enum-told3) .given .1) _ _ ((c .before .before .before .before .before .before .before .before .before .before .before .before .before .before .before .before .before .before .before .args) .settings .levels)) ∙ ((first-item _ _ _ _ _ (c .before .before .before .before .before .before .report-at .ensures _ _)) ∙ (first-item _ _ _ _ _ (c .before .before .emit2 .ensures _ _)))) (omega (arith, (told _ _ _ _ _ ((c .before .before .before .before .before .before .before .before .before .before .before .before .before .before .next) .ensures) ((c .before .before .before .before .before .before .before .before .before .before .before .before .step) .given .1)) .on)) ((told _ _ _ _ _ ((c .before .before .before .before .before .before .before .before .before .before .before .before .before .before .next) .ensures) ((c .before .before .before .before .before .before .before .before .before .before .before .before .step) .given .1)) .base) ((told _ _ _ _ _ ((c .before .before .before .before .before .before .before .before .before .before .before .before .before .before .next) .ensures) ((c .before .before .before .before .before .before .before .before .before .before .before .before .step) .given .1)) .good), ((c .before .before .emit2 .kept .0)) ∙ (c .before .before .before .before .before .before .before .before .before .before .before .before .before .before .before .loop) .inv .1, ((c .before .before .before .before .before .before .report-at .kept .0)) ∙ (c .before .before .before .before .before .before .before .before .before .before .before .before .before .before .before .loop) .inv .2)
 
 enum-told-4 : tie.Need-enum-told-4 Inv-loop μ-loop
 enum-told-4 c = search needs
@@ -112,7 +112,7 @@ same-length-6 : tie.Need-same-length-6 Inv-loop μ-loop
 same-length-6 c = ((c .before .before .before .before .on-inline-table-open .kept .1 .1 .1 .1 .1 .1 .0)) ∙ (c .before .before .before .before .before .before .before .before .before .before .before .before .before .before .loop) .inv .2
 
 returns-3 : tie.Need-returns-3 Inv-loop μ-loop
-returns-3 c = finish-nested ((c .before .before .before .before .before .before .before .before .before .before .before .before .before .before .loop) .inv .0) (value-at _ _ _ _ (told _ _ _ _ _ ((c .before .before .before .before .before .before .before .before .before .before .before .before .before .next) .ensures) ((c .before .before .before .before .before .before .before .before .before .before .before .step) .given .1)) _ _ ((c .before .before .before .before .before .before .before .before .before .in-value) .ensures) ((c .before .before .before .before .before .before .before .enum-told4) .given .1) _ _ ((c .before .before .before .before .before .before .before .before .before .before .before .before .before .before .before .before .before .before .args) .levels)) (omega (arith, (told _ _ _ _ _ ((c .before .before .before .before .before .before .before .before .before .before .before .before .before .next) .ensures) ((c .before .before .before .before .before .before .before .before .before .before .before .step) .given .1)) .on)) ((told _ _ _ _ _ ((c .before .before .before .before .before .before .before .before .before .before .before .before .before .next) .ensures) ((c .before .before .before .before .before .before .before .before .before .before .before .step) .given .1)) .base) ((c .before .before .before .before .on-inline-table-open) .ensures)
+returns-3 c = finish-nested ((c .before .before .before .before .before .before .before .before .before .before .before .before .before .before .loop) .inv .0) (value-at _ _ _ _ (told _ _ _ _ _ ((c .before .before .before .before .before .before .before .before .before .before .before .before .before .next) .ensures) ((c .before .before .before .before .before .before .before .before .before .before .before .step) .given .1)) _ _ ((c .before .before .before .before .before .before .before .before .before .in-value) .ensures) ((c .before .before .before .before .before .before .before .enum-told4) .given .1) _ _ ((c .before .before .before .before .before .before .before .before .before .before .before .before .before .before .before .before .before .before .args) .settings .levels)) (omega (arith, (told _ _ _ _ _ ((c .before .before .before .before .before .before .before .before .before .before .before .before .before .next) .ensures) ((c .before .before .before .before .before .before .before .before .before .before .before .step) .given .1)) .on)) ((told _ _ _ _ _ ((c .before .before .before .before .before .before .before .before .before .before .before .before .before .next) .ensures) ((c .before .before .before .before .before .before .before .before .before .before .before .step) .given .1)) .base) ((c .before .before .before .before .on-inline-table-open) .ensures)
 
 enum-told-5 : tie.Need-enum-told-5 Inv-loop μ-loop
 enum-told-5 c = search needs
@@ -136,7 +136,7 @@ same-length-8 : tie.Need-same-length-8 Inv-loop μ-loop
 same-length-8 c = ((c .before .before .before .before .before .before .before .before .before .before .before .report-before .kept .0)) ∙ (c .before .before .before .before .before .before .before .before .before .before .before .before .before .before .before .before .before .before .before .before .loop) .inv .2
 
 returns-4 : tie.Need-returns-4 Inv-loop μ-loop
-returns-4 c = nested-same ((c .unstopped3) .ensures) (nested-goes (finish ((c .before .before .before .before .before .before .before .before .before .before .before .before .before .before .before .before .before .before .before .before .loop) .inv .0) _ _ _ ((value-at _ _ _ _ (told _ _ _ _ _ ((c .before .before .before .before .before .before .before .before .before .before .before .before .before .before .before .before .before .before .before .next) .ensures) ((c .before .before .before .before .before .before .before .before .before .before .before .before .before .before .before .before .before .step) .given .1)) _ _ ((c .before .before .before .before .before .before .before .before .before .before .before .before .before .before .before .in-value) .ensures) ((c .before .before .before .before .before .before .before .before .before .before .before .before .before .enum-told5) .given .1) _ _ ((c .before .before .before .before .before .before .before .before .before .before .before .before .before .before .before .before .before .before .before .before .before .before .before .before .args) .levels)) ∙ ((first-item _ _ _ _ _ (c .before .before .before .before .before .before .before .before .before .before .before .report-before .ensures _ _)) ∙ (first-item _ _ _ _ _ (c .before .before .before .before .before .before .before .emit3 .ensures _ _)) ∙ (first-item _ _ _ _ _ (c .before .before .before .emit4 .ensures _ _))) ∙ run-done _ _ _ _ _ _) (omega (arith, (told _ _ _ _ _ ((c .before .before .before .before .before .before .before .before .before .before .before .before .before .before .before .before .before .before .before .next) .ensures) ((c .before .before .before .before .before .before .before .before .before .before .before .before .before .before .before .before .before .step) .given .1)) .on)) ((told _ _ _ _ _ ((c .before .before .before .before .before .before .before .before .before .before .before .before .before .before .before .before .before .before .before .next) .ensures) ((c .before .before .before .before .before .before .before .before .before .before .before .before .before .before .before .before .before .step) .given .1)) .base) ((told _ _ _ _ _ ((c .before .before .before .before .before .before .before .before .before .before .before .before .before .before .before .before .before .before .before .next) .ensures) ((c .before .before .before .before .before .before .before .before .before .before .before .before .before .before .before .before .before .step) .given .1)) .good)))
+returns-4 c = nested-same ((c .unstopped3) .ensures) (nested-goes (finish ((c .before .before .before .before .before .before .before .before .before .before .before .before .before .before .before .before .before .before .before .before .loop) .inv .0) _ _ _ ((value-at _ _ _ _ (told _ _ _ _ _ ((c .before .before .before .before .before .before .before .before .before .before .before .before .before .before .before .before .before .before .before .next) .ensures) ((c .before .before .before .before .before .before .before .before .before .before .before .before .before .before .before .before .before .step) .given .1)) _ _ ((c .before .before .before .before .before .before .before .before .before .before .before .before .before .before .before .in-value) .ensures) ((c .before .before .before .before .before .before .before .before .before .before .before .before .before .enum-told5) .given .1) _ _ ((c .before .before .before .before .before .before .before .before .before .before .before .before .before .before .before .before .before .before .before .before .before .before .before .before .args) .settings .levels)) ∙ ((first-item _ _ _ _ _ (c .before .before .before .before .before .before .before .before .before .before .before .report-before .ensures _ _)) ∙ (first-item _ _ _ _ _ (c .before .before .before .before .before .before .before .emit3 .ensures _ _)) ∙ (first-item _ _ _ _ _ (c .before .before .before .emit4 .ensures _ _))) ∙ run-done _ _ _ _ _ _) (omega (arith, (told _ _ _ _ _ ((c .before .before .before .before .before .before .before .before .before .before .before .before .before .before .before .before .before .before .before .next) .ensures) ((c .before .before .before .before .before .before .before .before .before .before .before .before .before .before .before .before .before .step) .given .1)) .on)) ((told _ _ _ _ _ ((c .before .before .before .before .before .before .before .before .before .before .before .before .before .before .before .before .before .before .before .next) .ensures) ((c .before .before .before .before .before .before .before .before .before .before .before .before .before .before .before .before .before .step) .given .1)) .base) ((told _ _ _ _ _ ((c .before .before .before .before .before .before .before .before .before .before .before .before .before .before .before .before .before .before .before .next) .ensures) ((c .before .before .before .before .before .before .before .before .before .before .before .before .before .before .before .before .before .step) .given .1)) .good)))
 
 enum-told-6 : tie.Need-enum-told-6 Inv-loop μ-loop
 enum-told-6 c = search needs
@@ -151,7 +151,7 @@ same-length-10 : tie.Need-same-length-10 Inv-loop μ-loop
 same-length-10 c = ((c .before .before .before .before .on-array-open .kept .1 .1 .1 .1 .1 .1 .0)) ∙ (c .before .before .before .before .before .before .before .before .before .before .before .before .before .before .loop) .inv .2
 
 returns-5 : tie.Need-returns-5 Inv-loop μ-loop
-returns-5 c = finish-nested ((c .before .before .before .before .before .before .before .before .before .before .before .before .before .before .loop) .inv .0) (value-at _ _ _ _ (told _ _ _ _ _ ((c .before .before .before .before .before .before .before .before .before .before .before .before .before .next) .ensures) ((c .before .before .before .before .before .before .before .before .before .before .before .step) .given .1)) _ _ ((c .before .before .before .before .before .before .before .before .before .in-value) .ensures) ((c .before .before .before .before .before .before .before .enum-told6) .given .1) _ _ ((c .before .before .before .before .before .before .before .before .before .before .before .before .before .before .before .before .before .before .args) .levels)) (omega (arith, (told _ _ _ _ _ ((c .before .before .before .before .before .before .before .before .before .before .before .before .before .next) .ensures) ((c .before .before .before .before .before .before .before .before .before .before .before .step) .given .1)) .on)) ((told _ _ _ _ _ ((c .before .before .before .before .before .before .before .before .before .before .before .before .before .next) .ensures) ((c .before .before .before .before .before .before .before .before .before .before .before .step) .given .1)) .base) ((c .before .before .before .before .on-array-open) .ensures)
+returns-5 c = finish-nested ((c .before .before .before .before .before .before .before .before .before .before .before .before .before .before .loop) .inv .0) (value-at _ _ _ _ (told _ _ _ _ _ ((c .before .before .before .before .before .before .before .before .before .before .before .before .before .next) .ensures) ((c .before .before .before .before .before .before .before .before .before .before .before .step) .given .1)) _ _ ((c .before .before .before .before .before .before .before .before .before .in-value) .ensures) ((c .before .before .before .before .before .before .before .enum-told6) .given .1) _ _ ((c .before .before .before .before .before .before .before .before .before .before .before .before .before .before .before .before .before .before .args) .settings .levels)) (omega (arith, (told _ _ _ _ _ ((c .before .before .before .before .before .before .before .before .before .before .before .before .before .next) .ensures) ((c .before .before .before .before .before .before .before .before .before .before .before .step) .given .1)) .on)) ((told _ _ _ _ _ ((c .before .before .before .before .before .before .before .before .before .before .before .before .before .next) .ensures) ((c .before .before .before .before .before .before .before .before .before .before .before .step) .given .1)) .base) ((c .before .before .before .before .on-array-open) .ensures)
 
 enum-told-7 : tie.Need-enum-told-7 Inv-loop μ-loop
 enum-told-7 c = search needs
@@ -175,7 +175,7 @@ same-length-12 : tie.Need-same-length-12 Inv-loop μ-loop
 same-length-12 c = ((c .before .before .before .before .before .before .before .before .before .before .before .report-before2 .kept .0)) ∙ (c .before .before .before .before .before .before .before .before .before .before .before .before .before .before .before .before .before .before .before .before .loop) .inv .2
 
 returns-6 : tie.Need-returns-6 Inv-loop μ-loop
-returns-6 c = nested-same ((c .unstopped4) .ensures) (nested-goes (finish ((c .before .before .before .before .before .before .before .before .before .before .before .before .before .before .before .before .before .before .before .before .loop) .inv .0) _ _ _ ((value-at _ _ _ _ (told _ _ _ _ _ ((c .before .before .before .before .before .before .before .before .before .before .before .before .before .before .before .before .before .before .before .next) .ensures) ((c .before .before .before .before .before .before .before .before .before .before .before .before .before .before .before .before .before .step) .given .1)) _ _ ((c .before .before .before .before .before .before .before .before .before .before .before .before .before .before .before .in-value) .ensures) ((c .before .before .before .before .before .before .before .before .before .before .before .before .before .enum-told7) .given .1) _ _ ((c .before .before .before .before .before .before .before .before .before .before .before .before .before .before .before .before .before .before .before .before .before .before .before .before .args) .levels)) ∙ ((first-item _ _ _ _ _ (c .before .before .before .before .before .before .before .before .before .before .before .report-before2 .ensures _ _)) ∙ (first-item _ _ _ _ _ (c .before .before .before .before .before .before .before .emit5 .ensures _ _)) ∙ (first-item _ _ _ _ _ (c .before .before .before .emit6 .ensures _ _))) ∙ run-done _ _ _ _ _ _) (omega (arith, (told _ _ _ _ _ ((c .before .before .before .before .before .before .before .before .before .before .before .before .before .before .before .before .before .before .before .next) .ensures) ((c .before .before .before .before .before .before .before .before .before .before .before .before .before .before .before .before .before .step) .given .1)) .on)) ((told _ _ _ _ _ ((c .before .before .before .before .before .before .before .before .before .before .before .before .before .before .before .before .before .before .before .next) .ensures) ((c .before .before .before .before .before .before .before .before .before .before .before .before .before .before .before .before .before .step) .given .1)) .base) ((told _ _ _ _ _ ((c .before .before .before .before .before .before .before .before .before .before .before .before .before .before .before .before .before .before .before .next) .ensures) ((c .before .before .before .before .before .before .before .before .before .before .before .before .before .before .before .before .before .step) .given .1)) .good)))
+returns-6 c = nested-same ((c .unstopped4) .ensures) (nested-goes (finish ((c .before .before .before .before .before .before .before .before .before .before .before .before .before .before .before .before .before .before .before .before .loop) .inv .0) _ _ _ ((value-at _ _ _ _ (told _ _ _ _ _ ((c .before .before .before .before .before .before .before .before .before .before .before .before .before .before .before .before .before .before .before .next) .ensures) ((c .before .before .before .before .before .before .before .before .before .before .before .before .before .before .before .before .before .step) .given .1)) _ _ ((c .before .before .before .before .before .before .before .before .before .before .before .before .before .before .before .in-value) .ensures) ((c .before .before .before .before .before .before .before .before .before .before .before .before .before .enum-told7) .given .1) _ _ ((c .before .before .before .before .before .before .before .before .before .before .before .before .before .before .before .before .before .before .before .before .before .before .before .before .args) .settings .levels)) ∙ ((first-item _ _ _ _ _ (c .before .before .before .before .before .before .before .before .before .before .before .report-before2 .ensures _ _)) ∙ (first-item _ _ _ _ _ (c .before .before .before .before .before .before .before .emit5 .ensures _ _)) ∙ (first-item _ _ _ _ _ (c .before .before .before .emit6 .ensures _ _))) ∙ run-done _ _ _ _ _ _) (omega (arith, (told _ _ _ _ _ ((c .before .before .before .before .before .before .before .before .before .before .before .before .before .before .before .before .before .before .before .next) .ensures) ((c .before .before .before .before .before .before .before .before .before .before .before .before .before .before .before .before .before .step) .given .1)) .on)) ((told _ _ _ _ _ ((c .before .before .before .before .before .before .before .before .before .before .before .before .before .before .before .before .before .before .before .next) .ensures) ((c .before .before .before .before .before .before .before .before .before .before .before .before .before .before .before .before .before .step) .given .1)) .base) ((told _ _ _ _ _ ((c .before .before .before .before .before .before .before .before .before .before .before .before .before .before .before .before .before .before .before .next) .ensures) ((c .before .before .before .before .before .before .before .before .before .before .before .before .before .before .before .before .before .step) .given .1)) .good)))
 
 enum-told-8 : tie.Need-enum-told-8 Inv-loop μ-loop
 enum-told-8 c = search needs
@@ -193,7 +193,7 @@ same-length-14 : tie.Need-same-length-14 Inv-loop μ-loop
 same-length-14 c = ((c .before .before .before .before .before .on-scalar .kept .1 .1 .1 .1 .1 .0)) ∙ (c .before .before .before .before .before .before .before .before .before .before .before .before .before .before .before .loop) .inv .2
 
 returns-7 : tie.Need-returns-7 Inv-loop μ-loop
-returns-7 c = nested-same ((c .unstopped5) .ensures) (nested-goes (finish-by ((c .before .before .before .before .before .before .before .before .before .before .before .before .before .before .before .loop) .inv .0) (value-at _ _ _ _ (told _ _ _ _ _ ((c .before .before .before .before .before .before .before .before .before .before .before .before .before .before .next) .ensures) ((c .before .before .before .before .before .before .before .before .before .before .before .before .step) .given .1)) _ _ ((c .before .before .before .before .before .before .before .before .before .before .in-value) .ensures) ((c .before .before .before .before .before .before .before .before .enum-told8) .given .1) _ _ ((c .before .before .before .before .before .before .before .before .before .before .before .before .before .before .before .before .before .before .before .args) .levels)) (omega (arith, (told _ _ _ _ _ ((c .before .before .before .before .before .before .before .before .before .before .before .before .before .before .next) .ensures) ((c .before .before .before .before .before .before .before .before .before .before .before .before .step) .given .1)) .on)) ((told _ _ _ _ _ ((c .before .before .before .before .before .before .before .before .before .before .before .before .before .before .next) .ensures) ((c .before .before .before .before .before .before .before .before .before .before .before .before .step) .given .1)) .base) ((c .before .before .before .before .before .on-scalar) .ensures)))
+returns-7 c = nested-same ((c .unstopped5) .ensures) (nested-goes (finish-by ((c .before .before .before .before .before .before .before .before .before .before .before .before .before .before .before .loop) .inv .0) (value-at _ _ _ _ (told _ _ _ _ _ ((c .before .before .before .before .before .before .before .before .before .before .before .before .before .before .next) .ensures) ((c .before .before .before .before .before .before .before .before .before .before .before .before .step) .given .1)) _ _ ((c .before .before .before .before .before .before .before .before .before .before .in-value) .ensures) ((c .before .before .before .before .before .before .before .before .enum-told8) .given .1) _ _ ((c .before .before .before .before .before .before .before .before .before .before .before .before .before .before .before .before .before .before .before .args) .settings .levels)) (omega (arith, (told _ _ _ _ _ ((c .before .before .before .before .before .before .before .before .before .before .before .before .before .before .next) .ensures) ((c .before .before .before .before .before .before .before .before .before .before .before .before .step) .given .1)) .on)) ((told _ _ _ _ _ ((c .before .before .before .before .before .before .before .before .before .before .before .before .before .before .next) .ensures) ((c .before .before .before .before .before .before .before .before .before .before .before .before .step) .given .1)) .base) ((c .before .before .before .before .before .on-scalar) .ensures)))
 
 pub value-spec : {M : Type 1} → statement M
 value-spec =

@@ -1,5 +1,6 @@
 -- By the contract, and that a list which is sound is run quietly where there is room.
 -- Made by ./proofs from Proof.tmpl: change that.
+use Rattle.rules.specs.Answer.{asCrate}
 use Rattle.verdicts.proofs.VerdictLaws.{judges-decided}
 use borrow.Author.Needs.{needs}
 use Rattle.verdicts.proofs.theorems.verdicts_judge.Statement.{statement}
@@ -12,7 +13,7 @@ fits-then-quiet-requires : tie.Need-fits-then-quiet-requires
 fits-then-quiet-requires c κs = search needs
 
 returns : tie.Need-returns
-returns c = λ after v j. judges-decided ((c .before .before .before .before .args) .records .now) ((c .before .before .before .before .args) .base) ((c .before .before .before .before .args) .events .now) after v ((c .fits-then-quiet) .ensures) j
+returns c = λ after v j. judges-decided ((c .before .before .before .before .args) .records .now) ((c .before .before .before .before .args) .base) ((c .before .before .before .before .args) .events .now) after v ((c .fits-then-quiet) .ensures asCrate) j
 
 pub verdicts-judge-spec : {M : Type 1} → statement M
 verdicts-judge-spec =

@@ -6,6 +6,7 @@ use Prim.Native.Nat.{_/_, _<_, _≤_}
 use native.Mathlib.Omega.{arith}
 use lib.ListN.{length}
 use Rattle.token.specs.Records.{count}
+use Rattle.rules.specs.Answer.{asCrate}
 use Rattle.verdicts.specs.Verdicts.{unjudged}
 use Rattle.verdicts.proofs.VerdictLaws.{not-judged, too-little, irregular, by-the-run}
 use borrow.Author.Needs.{needs}
@@ -42,7 +43,7 @@ same-length c = search needs
 returns : tie.Need-returns
 returns c =
     let u : unjudged ((c .before .before .before .before .before .before .parse-document) .result .refusal) ≡ true = cc in
-    rw ((c .answered) .ensures) (not-judged ((c .before .before .before .before .before .before .before .before .before .before .before .before .before .before .before .before .before .args) .records .now) ((c .before .before .before .before .before .before .before .before .before .before .before .before .before .before .before .before .before .args) .base) ((c .before .before .before .before .before .before .before .before .before .before .before .before .before .before .before .before .before .args) .events .now) _ _ _ ((c .before .before .before .before .before .before .parse-document) .ensures) (record { within = (c .before .before .before .before .before .before .before .before .before .before .before .before .quiet-exactly-when-fits-within) .ensures; quiet = (c .before .before .before .before .before .before .before .before .before .fits-then-quiet) .ensures }) u)
+    rw ((c .answered) .ensures) (not-judged ((c .before .before .before .before .before .before .before .before .before .before .before .before .before .before .before .before .before .args) .records .now) ((c .before .before .before .before .before .before .before .before .before .before .before .before .before .before .before .before .before .args) .base) ((c .before .before .before .before .before .before .before .before .before .before .before .before .before .before .before .before .before .args) .events .now) _ _ _ ((c .before .before .before .before .before .before .parse-document) .ensures) (record { within = (c .before .before .before .before .before .before .before .before .before .before .before .before .quiet-exactly-when-fits-within) .ensures asCrate; quiet = (c .before .before .before .before .before .before .before .before .before .fits-then-quiet) .ensures asCrate }) u)
 
 answered-requires-2 : tie.Need-answered-requires-2
 answered-requires-2 c κs = search needs
@@ -53,7 +54,7 @@ same-length-2 c = search needs
 returns-2 : tie.Need-returns-2
 returns-2 c =
     let u : unjudged ((c .before .before .before .before .before .before .before .parse-document) .result .refusal) ≡ false = cc in
-    rw ((c .answered2) .ensures) (too-little ((c .before .before .before .before .before .before .before .before .before .before .before .before .before .before .before .before .before .before .args) .records .now) ((c .before .before .before .before .before .before .before .before .before .before .before .before .before .before .before .before .before .before .args) .base) ((c .before .before .before .before .before .before .before .before .before .before .before .before .before .before .before .before .before .before .args) .events .now) _ _ _ ((c .before .before .before .before .before .before .before .parse-document) .ensures) (record { within = (c .before .before .before .before .before .before .before .before .before .before .before .before .before .quiet-exactly-when-fits-within) .ensures; quiet = (c .before .before .before .before .before .before .before .before .before .before .fits-then-quiet) .ensures }) u (omega (arith, (c .before .if2) .taken, ((c .before .before .before .before .before .before .before .parse-document) .kept .1 .1 .0))))
+    rw ((c .answered2) .ensures) (too-little ((c .before .before .before .before .before .before .before .before .before .before .before .before .before .before .before .before .before .before .args) .records .now) ((c .before .before .before .before .before .before .before .before .before .before .before .before .before .before .before .before .before .before .args) .base) ((c .before .before .before .before .before .before .before .before .before .before .before .before .before .before .before .before .before .before .args) .events .now) _ _ _ ((c .before .before .before .before .before .before .before .parse-document) .ensures) (record { within = (c .before .before .before .before .before .before .before .before .before .before .before .before .before .quiet-exactly-when-fits-within) .ensures asCrate; quiet = (c .before .before .before .before .before .before .before .before .before .before .fits-then-quiet) .ensures asCrate }) u (omega (arith, (c .before .if2) .taken, ((c .before .before .before .before .before .before .before .parse-document) .kept .1 .1 .1 .0))))
 
 is-regular-requires : tie.Need-is-regular-requires
 is-regular-requires c κs = search needs
@@ -70,7 +71,7 @@ same-length-3 c = search needs
 returns-3 : tie.Need-returns-3
 returns-3 c =
     let u : unjudged ((c .before .before .before .before .before .before .before .before .before .before .before .parse-document) .result .refusal) ≡ false = cc in
-    rw ((c .answered3) .ensures) (by-the-run ((c .before .before .before .before .before .before .before .before .before .before .before .before .before .before .before .before .before .before .before .before .before .before .args) .records .now) ((c .before .before .before .before .before .before .before .before .before .before .before .before .before .before .before .before .before .before .before .before .before .before .args) .base) ((c .before .before .before .before .before .before .before .before .before .before .before .before .before .before .before .before .before .before .before .before .before .before .args) .events .now) _ _ _ ((c .before .before .before .before .before .before .before .before .before .before .before .parse-document) .ensures) (record { within = (c .before .before .before .before .before .before .before .before .before .before .before .before .before .before .before .before .before .quiet-exactly-when-fits-within) .ensures; quiet = (c .before .before .before .before .before .before .before .before .before .before .before .before .before .before .fits-then-quiet) .ensures }) u (omega (arith, (c .before .before .before .before .before .if2) .left, ((c .before .before .before .before .before .before .before .before .before .before .before .parse-document) .kept .1 .1 .0))) _ ((c .before .before .before .before .is-regular) .ensures .0 ((c .before .before .before .if3) .taken)) ((c .before .is-quiet-without-multi-line-key) .ensures))
+    rw ((c .answered3) .ensures) (by-the-run ((c .before .before .before .before .before .before .before .before .before .before .before .before .before .before .before .before .before .before .before .before .before .before .args) .records .now) ((c .before .before .before .before .before .before .before .before .before .before .before .before .before .before .before .before .before .before .before .before .before .before .args) .base) ((c .before .before .before .before .before .before .before .before .before .before .before .before .before .before .before .before .before .before .before .before .before .before .args) .events .now) _ _ _ ((c .before .before .before .before .before .before .before .before .before .before .before .parse-document) .ensures) (record { within = (c .before .before .before .before .before .before .before .before .before .before .before .before .before .before .before .before .before .quiet-exactly-when-fits-within) .ensures asCrate; quiet = (c .before .before .before .before .before .before .before .before .before .before .before .before .before .before .fits-then-quiet) .ensures asCrate }) u (omega (arith, (c .before .before .before .before .before .if2) .left, ((c .before .before .before .before .before .before .before .before .before .before .before .parse-document) .kept .1 .1 .1 .0))) _ ((c .before .before .before .before .is-regular) .ensures .0 ((c .before .before .before .if3) .taken)) ((c .before .is-quiet-without-multi-line-key) .ensures))
 
 answered-requires-4 : tie.Need-answered-requires-4
 answered-requires-4 c κs = search needs
@@ -81,7 +82,7 @@ same-length-4 c = search needs
 returns-4 : tie.Need-returns-4
 returns-4 c =
     let u : unjudged ((c .before .before .before .before .before .before .before .before .before .parse-document) .result .refusal) ≡ false = cc in
-    rw ((c .answered4) .ensures) (irregular ((c .before .before .before .before .before .before .before .before .before .before .before .before .before .before .before .before .before .before .before .before .args) .records .now) ((c .before .before .before .before .before .before .before .before .before .before .before .before .before .before .before .before .before .before .before .before .args) .base) ((c .before .before .before .before .before .before .before .before .before .before .before .before .before .before .before .before .before .before .before .before .args) .events .now) _ _ _ ((c .before .before .before .before .before .before .before .before .before .parse-document) .ensures) (record { within = (c .before .before .before .before .before .before .before .before .before .before .before .before .before .before .before .quiet-exactly-when-fits-within) .ensures; quiet = (c .before .before .before .before .before .before .before .before .before .before .before .before .fits-then-quiet) .ensures }) u (omega (arith, (c .before .before .before .if2) .left, ((c .before .before .before .before .before .before .before .before .before .parse-document) .kept .1 .1 .0))) (λ g. false≢true (sym ((c .before .if3) .left) ∙ (c .before .before .is-regular) .ensures .1 g)))
+    rw ((c .answered4) .ensures) (irregular ((c .before .before .before .before .before .before .before .before .before .before .before .before .before .before .before .before .before .before .before .before .args) .records .now) ((c .before .before .before .before .before .before .before .before .before .before .before .before .before .before .before .before .before .before .before .before .args) .base) ((c .before .before .before .before .before .before .before .before .before .before .before .before .before .before .before .before .before .before .before .before .args) .events .now) _ _ _ ((c .before .before .before .before .before .before .before .before .before .parse-document) .ensures) (record { within = (c .before .before .before .before .before .before .before .before .before .before .before .before .before .before .before .quiet-exactly-when-fits-within) .ensures asCrate; quiet = (c .before .before .before .before .before .before .before .before .before .before .before .before .fits-then-quiet) .ensures asCrate }) u (omega (arith, (c .before .before .before .if2) .left, ((c .before .before .before .before .before .before .before .before .before .parse-document) .kept .1 .1 .1 .0))) (λ g. false≢true (sym ((c .before .if3) .left) ∙ (c .before .before .is-regular) .ensures .1 g)))
 
 pub fits-spec : {M : Type 1} → statement M
 fits-spec =

@@ -1,24 +1,23 @@
 -- The loop goes back record by record; what is found from here is what is found from the start.
 -- Made by ./proofs from Proof.tmpl: change that.
-use mathlib.Core.Path.{_≡_, refl, sym, _∙_}
+use mathlib.Core.Path.{_≡_, refl, sym, _∙_, ap}
 use native.Mathlib.Omega.{arith}
 use Prim.Native.Nat.{ℕ}
-use lib.ListN.{take}
 use Rattle.token.specs.Tokens.{Good, allTokens}
-use Rattle.token.specs.Search.{nearest}
+use Rattle.token.specs.Search.{isSought, nearestBetween}
 use Rattle.token.specs.CursorLaws.{back-fits, backed}
-use Rattle.token.specs.SearchLaws.{nearest-hit, nearest-miss}
+use Rattle.token.specs.SearchLaws.{nearest-hit, nearest-miss, nearest-none}
 use borrow.Author.Needs.{needs}
 use Rattle.token.proofs.cursor.Cursor.nearest_before.Statement.{statement}
 use Rattle.token.proofs.cursor.Cursor.nearest_before.Tie as tie
 
 abbrev Inv-loop : tie.InvT-loop
-Inv-loop s what none at₀ place₀ at place =
+Inv-loop s what none first at₀ place₀ at place =
     (b : ℕ) → Good s (record { base = b; at = at₀; place = place₀ })
-    → (nearest what none (take at (allTokens s b)) ≡ nearest what none (take at₀ (allTokens s b))) × Good s (record { base = b; at = at; place = place })
+    → (nearestBetween what none first at (allTokens s b) ≡ nearestBetween what none first at₀ (allTokens s b)) × Good s (record { base = b; at = at; place = place })
 
 abbrev μ-loop : tie.MeasureT-loop
-μ-loop s what none at₀ place₀ at place = at
+μ-loop s what none first at₀ place₀ at place = at
 
 loop-holds : tie.Need-loop-holds Inv-loop μ-loop
 loop-holds c = λ b g. (refl, g)
@@ -30,7 +29,7 @@ length-at-requires : tie.Need-length-at-requires Inv-loop μ-loop
 length-at-requires c κs = omega (arith, (c .loop-test) .taken, (c .before .loop) .inv ((c .before .before .before .args) .self .base) (c .before .before .before .pre) .1 .low)
 
 sub-place : tie.Need-sub-place Inv-loop μ-loop
-sub-place c = omega (arith, (c .length-at) .ensures, back-fits _ _ ((c .before .before .loop) .inv ((c .before .before .before .before .args) .self .base) (c .before .before .before .before .pre) .1) ((c .before .loop-test) .taken))
+sub-place c = omega (arith, (c .length-at) .ensures, back-fits _ _ ((c .before .before .loop) .inv ((c .before .before .before .before .args) .self .base) (c .before .before .before .before .pre) .1) (omega (arith, (c .before .loop-test) .taken)))
 
 kind-at-requires : tie.Need-kind-at-requires Inv-loop μ-loop
 kind-at-requires c κs = omega (arith, (c .before .loop-test) .taken, (c .before .before .loop) .inv ((c .before .before .before .before .args) .self .base) (c .before .before .before .before .pre) .1 .low)
@@ -40,7 +39,7 @@ is-sought-requires c κs = search needs
 
 returns : tie.Need-returns Inv-loop μ-loop
 returns c =
-    nearest-hit _ _ _ _ _ _ _ ((c .before .before .before .before .before .loop) .inv ((c .before .before .before .before .before .before .before .args) .self .base) (c .before .before .before .before .before .before .before .pre) .1) ((c .before .before .before .before .loop-test) .taken) ((c .before .before .before .length-at) .ensures) (cc)
+    nearest-hit _ _ _ _ _ _ _ _ ((c .before .before .before .before .before .loop) .inv ((c .before .before .before .before .before .before .before .args) .self .base) (c .before .before .before .before .before .before .before .pre) .1) ((c .before .before .before .before .loop-test) .taken) ((c .before .before .before .length-at) .ensures) ((ap (isSought ((c .before .before .before .before .before .before .before .args) .what)) (sym ((c .before .before .kind-at) .ensures)) ∙ sym ((c .before .is-sought) .ensures)) ∙ (c .if1) .taken)
     ∙ (c .before .before .before .before .before .loop) .inv ((c .before .before .before .before .before .before .before .args) .self .base) (c .before .before .before .before .before .before .before .pre) .0
 
 loop-less : tie.Need-loop-less Inv-loop μ-loop
@@ -48,12 +47,12 @@ loop-less c = search needs
 
 loop-again : tie.Need-loop-again Inv-loop μ-loop
 loop-again c = λ b g. (
-  sym (nearest-miss _ b _ _ _ ((c .before .before .before .before .loop-test) .taken) ((c .before .before .before .before .before .loop) .inv b g .1 .low) (cc)) ∙ (c .before .before .before .before .before .loop) .inv b g .0,
-  backed _ _ _ ((c .before .before .before .before .before .loop) .inv b g .1) ((c .before .before .before .before .loop-test) .taken) ((c .before .before .before .length-at) .ensures) .good,
+  sym (nearest-miss _ b _ _ _ _ ((c .before .before .before .before .loop-test) .taken) ((c .before .before .before .before .before .loop) .inv b g .1 .low) ((ap (isSought ((c .before .before .before .before .before .before .before .args) .what)) (sym ((c .before .before .kind-at) .ensures)) ∙ sym ((c .before .is-sought) .ensures)) ∙ (c .if1) .left)) ∙ (c .before .before .before .before .before .loop) .inv b g .0,
+  backed _ _ _ ((c .before .before .before .before .before .loop) .inv b g .1) (omega (arith, (c .before .before .before .before .loop-test) .taken)) ((c .before .before .before .length-at) .ensures) .good,
 )
 
 returns-2 : tie.Need-returns-2 Inv-loop μ-loop
-returns-2 c = let e : (c .before .loop) .at ≡ 0 = omega arith in rw e at ((c .before .loop) .inv ((c .before .before .before .args) .self .base) (c .before .before .before .pre) .0)
+returns-2 c = sym (nearest-none _ ((c .before .before .before .args) .self .base) _ _ _ _ ((c .loop-test) .left)) ∙ (c .before .loop) .inv ((c .before .before .before .args) .self .base) (c .before .before .before .pre) .0
 
 pub nearest-before-spec : {M : Type 1} → statement M
 nearest-before-spec =
