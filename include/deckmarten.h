@@ -9,7 +9,7 @@
 #include <stdint.h>
 
 /* The version of this header: a million times the major number, a thousand times the minor one, and the patch number. */
-#define DECKMARTEN_VERSION 9000
+#define DECKMARTEN_VERSION 10000
 
 #ifdef __cplusplus
 extern "C" {
@@ -44,6 +44,9 @@ enum deckmarten_size {
 #define DECKMARTEN_ERROR_WORDS(records) ((size_t)DECKMARTEN_SIZE_ERROR * (2 * (size_t)(records) + 1))
 #define DECKMARTEN_TEXT_EVENT_WORDS(bytes) DECKMARTEN_EVENT_WORDS(DECKMARTEN_TEXT_RECORDS(bytes))
 #define DECKMARTEN_TEXT_ERROR_WORDS(bytes) DECKMARTEN_ERROR_WORDS(DECKMARTEN_TEXT_RECORDS(bytes))
+/* The same for mistakes, which have as many words as errors. */
+#define DECKMARTEN_MISTAKE_WORDS(records) ((size_t)DECKMARTEN_SIZE_ERROR * (5 * (size_t)(records) + 1))
+#define DECKMARTEN_TEXT_MISTAKE_WORDS(bytes) DECKMARTEN_MISTAKE_WORDS(DECKMARTEN_TEXT_RECORDS(bytes))
 /* Bytes of the index of so many headers. */
 #define DECKMARTEN_INDEX_BYTES(headers) ((size_t)DECKMARTEN_SIZE_ENTRY * (headers))
 
@@ -106,7 +109,7 @@ enum deckmarten_encoding {
     DECKMARTEN_ENCODING_ML_BASIC_STRING = 4,   /* """..""", over several lines */
 };
 
-/* Messages of errors. */
+/* Messages of errors, and from 101 on of mistakes that document.rs is silent about: these stand in no error, but in the list of mistakes alone. */
 enum deckmarten_message {
     DECKMARTEN_MESSAGE_UNCLOSED_ARRAY_TABLE = 1,                     /* a single `]`, or none, after `[[` and a key */
     DECKMARTEN_MESSAGE_UNCLOSED_TABLE = 2,                           /* no `]` after `[` and a key */
@@ -137,6 +140,12 @@ enum deckmarten_message {
     DECKMARTEN_MESSAGE_MISSING_TABLE_OPEN = 27,                      /* a line starts with `]` */
     DECKMARTEN_MESSAGE_MISSING_VALUE = 28,                           /* the list ends where a value is wanted */
     DECKMARTEN_MESSAGE_EXTRA_EQUALS = 29,                            /* `=` where a value is wanted */
+    DECKMARTEN_MESSAGE_KEY_MISSING = 101,                            /* a key part was invented: nothing stands there */
+    DECKMARTEN_MESSAGE_VALUE_MISSING = 102,                          /* a value was invented: nothing stands there */
+    DECKMARTEN_MESSAGE_TEXT_SKIPPED = 103,                           /* tokens were passed over, with nothing but Whitespace between them */
+    DECKMARTEN_MESSAGE_MULTI_LINE_STRING_AS_KEY = 104,               /* a key part is a multi-line string */
+    DECKMARTEN_MESSAGE_BRACKET_NOT_CLOSED = 105,                     /* an array or inline table was given up; in no run that was tried without an error */
+    DECKMARTEN_MESSAGE_SOMETHING_MISSING = 106,                      /* something else was invented; in no run that was tried without an error */
 };
 
 /* What was expected at the place of an error. */
@@ -185,6 +194,7 @@ enum deckmarten_refusal {
     DECKMARTEN_REFUSAL_TOKENS = 11,        /* the tokens do not fit; place: 0 */
     DECKMARTEN_REFUSAL_NOT_QUIET = 12,     /* the run is not quiet, or the buffer does not hold its events; no place */
     DECKMARTEN_REFUSAL_INDEX = 13,         /* the index does not fit; no place */
+    DECKMARTEN_REFUSAL_MISTAKES = 14,      /* the mistakes do not fit; place: 0 */
     DECKMARTEN_REFUSAL_MODE = 15,          /* an unknown mode; place: 0. It comes before all others */
 };
 
@@ -213,6 +223,26 @@ struct deckmarten_verdict {
  * events than the text has records the answer is refusal EVENTS. Both buffers are for the function's own use. */
 struct deckmarten_verdict deckmarten_text_fits(const uint8_t *text, size_t bytes, uint8_t *records, size_t record_bytes,
                                                uint32_t *events, size_t event_words);
+
+/* What comes of the check of a text: the refusal and its place; what deckmarten_text_answer has; and how many mistakes there are, stored or not: 0 at every
+ * refusal but MISTAKES. */
+struct deckmarten_check {
+    uint32_t refusal;
+    size_t place;
+    uint32_t base;
+    size_t records;
+    size_t events;
+    size_t errors;
+    size_t mistakes;
+};
+
+/* The mistakes of a text, DECKMARTEN_SIZE_ERROR words each: every error of its run, as it is, and what document.rs is silent about, as the invented key in
+ * `[=ledger]`. **The text fits exactly if `refusal == 0 && mistakes == 0`.** DECKMARTEN_TEXT_RECORDS, DECKMARTEN_TEXT_EVENT_WORDS, DECKMARTEN_TEXT_ERROR_WORDS and
+ * DECKMARTEN_TEXT_MISTAKE_WORDS are enough room, and too little is a refusal. Places need not rise from one mistake to the next. The text is read in brace
+ * mode: a comma that is blamed stands behind the `{` of its table. What is inside a token is not judged, as at deckmarten_text_fits. */
+struct deckmarten_check deckmarten_check_text(const uint8_t *text, size_t bytes, uint8_t *records, size_t record_bytes, uint32_t *events,
+                                              size_t event_words, uint32_t *errors, size_t error_words, uint32_t *mistakes,
+                                              size_t mistake_words);
 
 /* What comes of records: the refusal's number, its place, and how many events and errors there are, stored or not. */
 struct deckmarten_answer {
@@ -305,6 +335,21 @@ struct deckmarten_indexed {
  * deckmarten_run_of_text. */
 struct deckmarten_indexed deckmarten_index(struct deckmarten_answer answer, const uint32_t *events, size_t event_words, uint8_t *index,
                                            size_t index_bytes);
+
+/* What comes of the mistakes of a run: the run's own refusal and place; else 1 to 5, where the records are not what a run takes; EVENTS or ERRORS where the
+ * answer counts more than the buffer holds; or MISTAKES; and how many mistakes there are, stored or not: 0 at every refusal but MISTAKES. */
+struct deckmarten_listed {
+    uint32_t refusal;
+    size_t place;
+    size_t mistakes;
+};
+
+/* Writes the mistakes of a document run over these records, which left its events and errors in these buffers. Any words may be given. Of a
+ * regular list there is none exactly if it fits. At MISTAKES the buffer holds the first of them, as many as fit; at every other refusal nothing is
+ * written. */
+struct deckmarten_listed deckmarten_mistakes(const uint8_t *records, size_t bytes, uint32_t base, struct deckmarten_answer answer,
+                                             const uint32_t *events, size_t event_words, const uint32_t *errors, size_t error_words,
+                                             uint32_t *mistakes, size_t mistake_words);
 
 /* What is at a position in an index: one of enum deckmarten_found; and of a header whether it is an array table (1, else 0), the number of
  * its open event, from 0, of its key parts, and of the events from that one up to the next header or the end; and where the next entry

@@ -70,6 +70,12 @@ static inline const char *deckmarten_message_text(uint32_t number) {
     case DECKMARTEN_MESSAGE_MISSING_TABLE_OPEN: return "missing table open";
     case DECKMARTEN_MESSAGE_MISSING_VALUE: return "missing value";
     case DECKMARTEN_MESSAGE_EXTRA_EQUALS: return "extra `=`";
+    case DECKMARTEN_MESSAGE_KEY_MISSING: return "key missing";
+    case DECKMARTEN_MESSAGE_VALUE_MISSING: return "value missing";
+    case DECKMARTEN_MESSAGE_TEXT_SKIPPED: return "text skipped";
+    case DECKMARTEN_MESSAGE_MULTI_LINE_STRING_AS_KEY: return "multi-line string as key";
+    case DECKMARTEN_MESSAGE_BRACKET_NOT_CLOSED: return "bracket not closed";
+    case DECKMARTEN_MESSAGE_SOMETHING_MISSING: return "something missing";
     default: return "?";
     }
 }
@@ -110,6 +116,7 @@ static inline const char *deckmarten_refusal_text(uint32_t number) {
     case DECKMARTEN_REFUSAL_TOKENS: return "the tokens do not fit";
     case DECKMARTEN_REFUSAL_NOT_QUIET: return "the run is not quiet";
     case DECKMARTEN_REFUSAL_INDEX: return "the index does not fit";
+    case DECKMARTEN_REFUSAL_MISTAKES: return "the mistakes do not fit";
     case DECKMARTEN_REFUSAL_MODE: return "an unknown mode";
     default: return "?";
     }

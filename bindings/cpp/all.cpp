@@ -34,6 +34,11 @@ int main() {
     const deckmarten_header header = deckmarten_header_at(index.data(), index.size(), 0);
     expect(header.found == DECKMARTEN_FOUND_HEADER && header.parts == 2 && header.events == 12, "header_at");
 
+    std::vector<uint32_t> mistakes(DECKMARTEN_MISTAKE_WORDS(most));
+    const deckmarten_listed listed = deckmarten_mistakes(records.data(), DECKMARTEN_RECORD_BYTES(read.records), read.base, run, events.data(), events.size(),
+                                                         errors.data(), errors.size(), mistakes.data(), mistakes.size());
+    expect(!listed.refusal && !listed.mistakes, "mistakes");
+
     const size_t record_bytes = DECKMARTEN_RECORD_BYTES(read.records);
     std::vector<uint8_t> lexed(record_bytes);
     expect(deckmarten_lex(bytes, text.size(), lexed.data(), lexed.size()).records == read.records, "lex");
@@ -69,6 +74,13 @@ int main() {
            "an unknown mode");
     expect(deckmarten_parse_tokens(tokens, 2, 0, as_crate, events.data(), events.size(), errors.data(), errors.size()).errors == 1, "parse_tokens");
     expect(errors[0] == DECKMARTEN_MESSAGE_KEY_WITH_NO_VALUE, "the error of a key alone");
+
+    const std::string ledger = "[=ledger]\n";
+    const deckmarten_check check =
+        deckmarten_check_text(reinterpret_cast<const uint8_t *>(ledger.data()), ledger.size(), records.data(), records.size(), events.data(), events.size(),
+                              errors.data(), errors.size(), mistakes.data(), mistakes.size());
+    expect(!check.refusal && !check.errors && check.mistakes == 2 && mistakes[0] == DECKMARTEN_MESSAGE_KEY_MISSING, "check_text");
+    expect(deckmarten_parse_tokens(tokens, 2, 0, as_crate, events.data(), events.size(), errors.data(), errors.size()).errors == 1, "parse_tokens again");
 
     expect(!std::strcmp(deckmarten_event_text(events[0]), "simple_key"), "event_text");
     expect(!std::strcmp(deckmarten_message_text(errors[0]), "key with no value"), "message_text");

@@ -38,6 +38,10 @@ pub fn text(case: &str, size: usize) -> Option<Vec<u8>> {
         }
         // lines, each with an error
         "lines" => "a\n".repeat(size),
+        // lines, each with a key that the Rust invents in silence
+        "silent" => "[=a]\n".repeat(size),
+        // commas on one line, each an error
+        "commas-shown" => format!("x=[{}", ",".repeat(size)),
         // scalars
         "scalars" => cases::scalars(size),
         // pairs of bytes, or bytes

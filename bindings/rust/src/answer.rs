@@ -4,9 +4,15 @@ use core::ops::{Deref, Range};
 
 use crate::foreign::{self, RawAnswer, RawTextAnswer};
 use crate::limits::{ERROR_SIZE, EVENT_SIZE, RECORD_SIZE};
-use crate::{Event, Header, Index, Indexed, ParseError, Refusal, Stored};
+use crate::{Event, Header, Index, Indexed, ParseError, Refusal, Refused, Stored};
 
-/// What a run answers, with the buffers that hold its events and errors.
+/// What a run answers, with the buffers that hold its events and errors. That there is one says nothing of the text: [`is_quiet`](Answer::is_quiet) does, and of a text
+/// [`check`](crate::check) says all at once. It must be used:
+///
+/// ```compile_fail
+/// #![deny(unused_must_use)]
+/// deckmarten::Room::new().parse_text(b"[=ledger]");
+/// ```
 #[derive(Clone, Copy, Debug)]
 #[must_use]
 pub struct Answer<'b> {
@@ -23,6 +29,11 @@ fn stored<T>(buffer: &[T], count: usize, size: usize) -> &[T] {
 impl<'b> Answer<'b> {
     pub(crate) fn new(raw: RawAnswer, events: &'b [u32], errors: &'b [u32]) -> Answer<'b> {
         Answer { raw, events: stored(events, raw.events, EVENT_SIZE), errors: stored(errors, raw.errors, ERROR_SIZE) }
+    }
+
+    /// The answer, and the words that hold its events and its errors.
+    pub(crate) fn parts(&self) -> (RawAnswer, &'b [u32], &'b [u32]) {
+        (self.raw, self.events, self.errors)
     }
 
     /// Why the text or the list was refused; none if it was not.
@@ -127,6 +138,12 @@ impl<'b> TextAnswer<'b> {
     /// How many records the text has, also where there is no room for them. 0 if it is too long or not UTF-8.
     pub fn record_count(&self) -> usize {
         self.record_count
+    }
+
+    /// Where it was refused, as a byte of the text: the place itself, or where the record of that number starts. 0 if it was not.
+    pub fn byte(&self) -> usize {
+        Refused::answered(self.answer.raw.refusal, self.answer.raw.place)
+            .map_or(0, |refused| refused.byte(self.base, self.records))
     }
 
     /// The bytes of the records that were written: of all of them, or none.

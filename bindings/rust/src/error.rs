@@ -37,8 +37,8 @@ pub struct ParseError {
 impl ParseError {
     pub(crate) fn read(words: &[u32]) -> ParseError {
         ParseError {
-            message: Message::from_number(words[0]).expect("an error has a message of 1 to 29"),
-            expected: Expected::from_number(words[1]).expect("an error has an expected of 1 to 14"),
+            message: Message::from_number(words[0]).expect("an error or a mistake has a message of docs/LAYOUT.md"),
+            expected: Expected::from_number(words[1]).expect("an error or a mistake has an expected of 1 to 14"),
             context: Span { start: words[2], end: words[3] },
             unexpected: Span { start: words[4], end: words[5] },
             line: words[6],

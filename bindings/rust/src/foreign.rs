@@ -77,6 +77,28 @@ pub(crate) struct RawOptions {
     pub(crate) mode: u32,
 }
 
+/// `struct deckmarten_listed`.
+#[derive(Clone, Copy, Debug)]
+#[repr(C)]
+pub(crate) struct RawListed {
+    pub(crate) refusal: u32,
+    pub(crate) place: usize,
+    pub(crate) mistakes: usize,
+}
+
+/// `struct deckmarten_check`.
+#[derive(Clone, Copy, Debug)]
+#[repr(C)]
+pub(crate) struct RawCheck {
+    pub(crate) refusal: u32,
+    pub(crate) place: usize,
+    pub(crate) base: u32,
+    pub(crate) records: usize,
+    pub(crate) events: usize,
+    pub(crate) errors: usize,
+    pub(crate) mistakes: usize,
+}
+
 /// Declares entries as include/deckmarten.h does, each with what its list is made of: a slice is a pointer and a length.
 macro_rules! entries {
     ($($name:ident $item:ty,)+) => {
@@ -114,6 +136,14 @@ extern "C" {
     fn deckmarten_is_regular(records: *const u8, bytes: usize, base: u32) -> bool;
     fn deckmarten_index(answer: RawAnswer, events: *const u32, event_words: usize, index: *mut u8, index_bytes: usize) -> RawIndexed;
     fn deckmarten_header_at(index: *const u8, index_bytes: usize, at: usize) -> RawHeader;
+    fn deckmarten_mistakes(
+        records: *const u8, record_bytes: usize, base: u32, answer: RawAnswer, events: *const u32, event_words: usize, errors: *const u32,
+        error_words: usize, mistakes: *mut u32, mistake_words: usize,
+    ) -> RawListed;
+    fn deckmarten_check_text(
+        text: *const u8, bytes: usize, records: *mut u8, record_bytes: usize, events: *mut u32, event_words: usize, errors: *mut u32,
+        error_words: usize, mistakes: *mut u32, mistake_words: usize,
+    ) -> RawCheck;
 }
 
 /// A function of the library over a list.
@@ -219,4 +249,26 @@ pub(crate) fn index(answer: RawAnswer, events: &[u32], index: &mut [u8]) -> RawI
 pub(crate) fn header_at(index: &[u8], at: usize) -> RawHeader {
     // SAFETY: see above
     unsafe { deckmarten_header_at(index.as_ptr(), index.len(), at) }
+}
+
+#[rustfmt::skip]
+pub(crate) fn mistakes(records: &[u8], base: u32, answer: RawAnswer, events: &[u32], errors: &[u32], mistakes: &mut [u32]) -> RawListed {
+    // SAFETY: see above
+    unsafe {
+        deckmarten_mistakes(
+            records.as_ptr(), records.len(), base, answer, events.as_ptr(), events.len(), errors.as_ptr(), errors.len(),
+            mistakes.as_mut_ptr(), mistakes.len(),
+        )
+    }
+}
+
+#[rustfmt::skip]
+pub(crate) fn check_text(text: &[u8], records: &mut [u8], events: &mut [u32], errors: &mut [u32], mistakes: &mut [u32]) -> RawCheck {
+    // SAFETY: see above
+    unsafe {
+        deckmarten_check_text(
+            text.as_ptr(), text.len(), records.as_mut_ptr(), records.len(), events.as_mut_ptr(), events.len(), errors.as_mut_ptr(),
+            errors.len(), mistakes.as_mut_ptr(), mistakes.len(),
+        )
+    }
 }

@@ -29,6 +29,7 @@
 extern crate alloc;
 
 mod answer;
+mod check;
 mod entry;
 mod error;
 mod event;
@@ -38,6 +39,7 @@ mod foreign;
 mod index;
 pub mod limits;
 mod message;
+mod mistakes;
 mod numbered;
 mod options;
 mod refusal;
@@ -46,9 +48,11 @@ mod span;
 mod stored;
 mod text;
 mod token;
+pub mod toml_parser;
 mod version;
 
 pub use answer::{Answer, TextAnswer};
+pub use check::{check, Document, Trouble};
 pub use entry::{parse_document, parse_key, parse_simple_key, parse_tokens, parse_value, Entry};
 pub use error::ParseError;
 pub use event::{Encoding, Event, EventKind};
@@ -56,6 +60,7 @@ pub use expected::Expected;
 pub use fits::{fits, is_regular, text_fits, Verdict};
 pub use index::{headers, Header, Headers, Index, Indexed};
 pub use message::Message;
+pub use mistakes::{mistakes, Mistakes};
 pub use options::{Mode, Options};
 pub use refusal::{Refusal, Refused};
 pub use room::Room;

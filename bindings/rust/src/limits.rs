@@ -32,6 +32,11 @@ pub const fn enough_error_words(records: usize) -> usize {
     ERROR_SIZE * (2 * records + 1)
 }
 
+/// Words that are enough for the mistakes of so many records: it is proved that there are at most five a record and one more.
+pub const fn enough_mistake_words(records: usize) -> usize {
+    ERROR_SIZE * (5 * records + 1)
+}
+
 /// Words that are enough for the events of a text of so many bytes.
 pub const fn enough_text_event_words(text_bytes: usize) -> usize {
     enough_event_words(enough_records(text_bytes))
@@ -40,4 +45,9 @@ pub const fn enough_text_event_words(text_bytes: usize) -> usize {
 /// Words that are enough for the errors of a text of so many bytes.
 pub const fn enough_text_error_words(text_bytes: usize) -> usize {
     enough_error_words(enough_records(text_bytes))
+}
+
+/// Words that are enough for the mistakes of a text of so many bytes.
+pub const fn enough_text_mistake_words(text_bytes: usize) -> usize {
+    enough_mistake_words(enough_records(text_bytes))
 }

@@ -3,7 +3,8 @@
 use crate::numbered::numbered;
 
 numbered! {
-    /// The message of an error. `Display` prints the text of document.rs.
+    /// The message of an error or a mistake. `Display` prints the text of document.rs. Those from 101 on are of mistakes that document.rs is silent
+    /// about: [`check`](crate::check) and [`mistakes`](crate::mistakes) alone give them.
     #[non_exhaustive]
     Message {
         /// A single `]`, or none, after `[[` and a key.
@@ -64,5 +65,24 @@ numbered! {
         MissingValue = 28 => "missing value",
         /// `=` where a value is wanted.
         ExtraEquals = 29 => "extra `=`",
+        /// A key part was invented: nothing stands there.
+        KeyMissing = 101 => "key missing",
+        /// A value was invented: nothing stands there.
+        ValueMissing = 102 => "value missing",
+        /// Tokens were passed over, with nothing but Whitespace between them.
+        TextSkipped = 103 => "text skipped",
+        /// A key part is a multi-line string, which TOML 1.0.0 does not allow.
+        MultiLineStringAsKey = 104 => "multi-line string as key",
+        /// An array or inline table was given up. In every run that was tried an error says so, so that no list had it.
+        BracketNotClosed = 105 => "bracket not closed",
+        /// Something else was invented. In every run that was tried an error says so, so that no list had it.
+        SomethingMissing = 106 => "something missing",
+    }
+}
+
+impl Message {
+    /// Whether document.rs is silent about it, so that no error says it.
+    pub const fn is_silent(self) -> bool {
+        self.number() > Message::ExtraEquals.number()
     }
 }

@@ -3,6 +3,7 @@
 use core::fmt;
 
 use crate::numbered::numbered;
+use crate::Records;
 
 numbered! {
     /// Why a text or a list was not read to its end, or not stored whole. The place is the number of a record, from 0, where nothing else is
@@ -36,6 +37,8 @@ numbered! {
         NotQuiet = 12 => "the run is not quiet",
         /// Of an index; there is no place.
         Index = 13 => "the index does not fit",
+        /// Of the mistakes; the place is 0. The buffer holds the first of them, and the count is that of the full list.
+        Mistakes = 14 => "the mistakes do not fit",
         /// The place is 0, all else in the answer 0 too, and it comes before all others. No [`Mode`](crate::Mode) gives it.
         Mode = 15 => "an unknown mode",
     }
@@ -63,6 +66,14 @@ impl Refused {
     /// The refusal of an answer; none if its number is 0.
     pub(crate) fn answered(number: u32, place: usize) -> Option<Refused> {
         Refusal::answered(number).map(|refusal| Refused { refusal, place })
+    }
+
+    /// The byte of the text that the place stands for: the place itself, or where the record of that number starts. These are the text's records.
+    pub(crate) fn byte(&self, base: u32, records: &[u8]) -> usize {
+        match self.refusal {
+            Refusal::TextTooLong | Refusal::NotUtf8 => self.place,
+            _ => Records::lengths(records).take(self.place).fold(base as usize, |end, length| end + length as usize),
+        }
     }
 }
 

@@ -124,6 +124,11 @@ impl Records {
         Records { bytes }
     }
 
+    /// The lengths in the bytes of records.
+    pub(crate) fn lengths(bytes: &[u8]) -> impl Iterator<Item = u32> + '_ {
+        bytes.chunks_exact(RECORD_SIZE).map(|record| u32::from_le_bytes([record[0], record[1], record[2], record[3]]))
+    }
+
     /// The tokens, in the order of the text; from both ends.
     pub fn iter(&self) -> impl DoubleEndedIterator<Item = Token> + ExactSizeIterator + FusedIterator + Clone + '_ {
         self.bytes.chunks_exact(RECORD_SIZE).map(Token::read)

@@ -135,8 +135,9 @@ fn numbers_go_both_ways() {
         )+};
     }
     both_ways! {
-        TokenKind [1..=16], EventKind [1..=17], Encoding [1..=4], Message [1..=29], Expected [1..=14], Refusal [1..=13, 15..=15],
+        TokenKind [1..=16], EventKind [1..=17], Encoding [1..=4], Message [1..=29, 101..=106], Expected [1..=14], Refusal [1..=15],
     }
+    assert!(Message::ALL.iter().all(|message| message.is_silent() == (message.number() > 100)));
     assert_eq!(Refusal::Depth.to_string(), "a 65th array or inline table would be open");
     assert_eq!(format!("{:>12}|{}", TokenKind::Dot, EventKind::Scalar), "         `.`|value");
 }

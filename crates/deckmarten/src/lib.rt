@@ -3,6 +3,7 @@
 pub mod answer;
 pub mod indexes;
 pub mod judgements;
+pub mod listings;
 pub mod options;
 pub mod text;
 pub mod theorems;

@@ -3,7 +3,7 @@
 ghost use mathlib.Core.Path.{_≡_};
 ghost use Rattle.deckmarten.specs.Version.{version};
 
-const VERSION: u32 = 9000;
+const VERSION: u32 = 10000;
 
 #[no_mangle]
 pub extern "C" fn deckmarten_version() -> u32
@@ -14,7 +14,7 @@ pub extern "C" fn deckmarten_version() -> u32
 
 // The same by a name that only this version has: whoever looks for it finds out an archive of another one without a call.
 #[no_mangle]
-pub extern "C" fn deckmarten_version_9000() -> u32
+pub extern "C" fn deckmarten_version_10000() -> u32
     ensures { λ r. ⌜ r ≡ version ⌝ }
 {
     deckmarten_version()

@@ -1,0 +1,8 @@
+pub mod PieceLaws
+pub mod RecordLaws
+pub mod SheetLaws
+pub mod ListingLaws
+pub mod OutcomeLaws
+pub mod CompleteLaws
+pub mod SoundLaws
+pub mod FitLaws
