@@ -1,3 +1,4 @@
-// What a turn in an array is made of, and what a turn in an array or an inline table promises. Each function is proved equal to its rule.
+// What a turn in an array is made of, a closing bracket that nothing opened, and what a turn in an array or an inline table promises. Each function is proved equal to its rule.
+pub mod brackets;
 pub mod parts;
 pub mod turn;

@@ -1,15 +1,15 @@
 -- Turns in arrays, a token at a time. Assumes nothing.
 use mathlib.Core.Path.{_≡_, refl, ap, sym, subst, _∙_}
+use mathlib.Core.Bool.{Bool, true, false}
 use mathlib.Core.List.{List}
 use Prim.Native.Nat.{ℕ}
+use Rattle.token.specs.KindLaws.{every-kind}
 use Rattle.token.specs.Tokens.{Tok, tokensAt, Took}
 use Rattle.token.specs.declared.kind.Kind.{Kind}
-use Rattle.token.specs.declared.kind.Kind.the-variants.{Dot, Equals, Comma, LeftSquareBracket, RightSquareBracket, LeftCurlyBracket, RightCurlyBracket, Whitespace, Comment, Newline, LiteralString, BasicString, MlLiteralString, MlBasicString, Atom, Eof}
 use Rattle.token.specs.declared.cursor.Token.{Token}
 use Rattle.token.specs.declared.cursor.Cursor.{Cursor}
 use Rattle.rules.specs.declared.array.InArray.{InArray}
 use Rattle.rules.specs.declared.array.ArrayState.{ArrayState}
-use Rattle.rules.specs.declared.scalar.Starting.{Starting}
 use Rattle.rules.specs.Out.{Place, Out, _▸_}
 use Rattle.rules.specs.Scalar.{startingOf}
 use Rattle.rules.specs.Array.{Nest, inArray, arrayStep, arrayTurn, arrayComma}
@@ -17,6 +17,7 @@ use Rattle.output.specs.Pour.{Bufs}
 use Rattle.output.specs.Walks.{run}
 use Rattle.output.specs.WalkLaws.{at-token}
 use Rattle.scalars.specs.ScalarWalks.{Starts}
+use Rattle.scalars.specs.StartLaws.{ScalarsStart, class-starts}
 use Rattle.array_turns.specs.declared.array.ArrayTurn.{ArrayTurn}
 use Rattle.array_parts.specs.Turning.{Turned, Wants, commaItems}
 
@@ -37,39 +38,21 @@ module _ (s : List ℕ) (c d : Cursor) (t : Token) (k : Took s c t d) (x y : InA
       comma-by ArrayState.NeedsComma = refl
 
 -- a kind that an array takes for a scalar starts one
-abbrev ScalarStarts : InArray → Starting → Type 0
-ScalarStarts InArray.Whitespace x = Unit {0}
-ScalarStarts InArray.Comment x = Unit {0}
-ScalarStarts InArray.Newline x = Unit {0}
-ScalarStarts InArray.Eof x = Unit {0}
-ScalarStarts InArray.Comma x = Unit {0}
-ScalarStarts InArray.Equals x = Unit {0}
-ScalarStarts InArray.OpenCurly x = Unit {0}
-ScalarStarts InArray.CloseCurly x = Unit {0}
-ScalarStarts InArray.OpenSquare x = Unit {0}
-ScalarStarts InArray.CloseSquare x = Unit {0}
-ScalarStarts InArray.Scalar x = Starts x
-
-scalar-starts : (k : Kind) → ScalarStarts (inArray k) (startingOf k)
-scalar-starts Dot = tt
-scalar-starts Equals = tt
-scalar-starts Comma = tt
-scalar-starts LeftSquareBracket = tt
-scalar-starts RightSquareBracket = tt
-scalar-starts LeftCurlyBracket = tt
-scalar-starts RightCurlyBracket = tt
-scalar-starts Whitespace = tt
-scalar-starts Comment = tt
-scalar-starts Newline = tt
-scalar-starts LiteralString = tt
-scalar-starts BasicString = tt
-scalar-starts MlLiteralString = tt
-scalar-starts MlBasicString = tt
-scalar-starts Atom = tt
-scalar-starts Eof = tt
+abbrev isScalar : InArray → Bool
+isScalar InArray.Whitespace = false
+isScalar InArray.Comment = false
+isScalar InArray.Newline = false
+isScalar InArray.Eof = false
+isScalar InArray.Comma = false
+isScalar InArray.Equals = false
+isScalar InArray.OpenCurly = false
+isScalar InArray.CloseCurly = false
+isScalar InArray.OpenSquare = false
+isScalar InArray.CloseSquare = false
+isScalar InArray.Scalar = true
 
 pub array-starts : (k : Kind) (x : InArray) → x ≡ inArray k → x ≡ InArray.Scalar → Starts (startingOf k)
-array-starts k x p q = subst (λ (z : InArray). ScalarStarts z (startingOf k)) (sym p ∙ q) (scalar-starts k)
+array-starts = class-starts inArray isScalar InArray.Scalar refl (every-kind (ScalarsStart inArray isScalar) tt tt tt tt tt tt tt tt tt tt tt tt tt tt tt tt)
 
 -- an answer that is made by a function
 module _ {s : List ℕ} {c : Cursor} {o : Bufs} {a b : List ℕ} where

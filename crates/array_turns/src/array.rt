@@ -1,4 +1,5 @@
 // Arrays: one turn.
+use array_parts::brackets::without_open;
 use array_parts::parts::comma;
 use array_parts::parts::missing_comma;
 use array_parts::turn::Next;
@@ -7,17 +8,15 @@ use output::emitting::Counts;
 use output::emitting::Walk;
 use output::emitting::emit;
 use output::emitting::report_at;
-use output::emitting::report_before;
 use output::expected::CLOSE_SQUARE;
-use output::expected::OPEN_CURLY;
 use output::expected::VALUE_OR_CLOSE_SQUARE;
-use output::message::MISSING_INLINE_TABLE_OPENING;
 use output::message::UNCLOSED_ARRAY;
 use output::message::UNEXPECTED_EQUALS_IN_ARRAY;
 use rules::array::ArrayState;
 use rules::array::InArray;
 use rules::array::in_array;
 use rules::event::Event;
+use rules::skipping::Bracket;
 use scalars::scalar::on_scalar;
 use skip_lines::skipping::on_comment;
 use token::cursor::Cursor;
@@ -155,9 +154,7 @@ pub fn array_turn(
         }
         InArray::CloseCurly => {
             let h = missing_comma(m, state, head, t, events, errors);
-            let i = report_before(errors, h, MISSING_INLINE_TABLE_OPENING, OPEN_CURLY, t, t);
-            let j = emit(events, i, Event::InlineTableOpen, t.start, t.start);
-            let n = emit(events, j, Event::InlineTableClose, t.start, t.end);
+            let n = without_open(h, Bracket::Curly, t, events, errors);
             again(Walk { cur: past, n }, ArrayState::NeedsComma)
         }
         InArray::OpenSquare => {

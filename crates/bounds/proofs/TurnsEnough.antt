@@ -23,6 +23,7 @@ use Rattle.rules.specs.Turns.{turns}
 use Rattle.rules.specs.Skipping.{inClose, onComment, fewer, closeSquare, closeCurly, opened, valueCloseStep, valueCloseTurn, ignoreToValueClose}
 use Rattle.rules.specs.Keys.{optDotKeys, simpleKey}
 use Rattle.rules.specs.Scalar.{onScalar}
+use Rattle.rules.specs.WithoutOpen.{withoutOpen}
 use Rattle.rules.specs.Array.{inArray, Nest, missingComma, arrayStep, arrayTurn}
 use Rattle.rules.specs.InlineTable.{actionOf, wanted, progress, encodingAt, refused, inlineTableStep, inlineTableTurn}
 use Rattle.rules.specs.Nest.{onOpen}
@@ -80,7 +81,7 @@ module _ (head : Place) (nest : Nest) (short : (bracket : Bracket) (a b : ℕ) (
   array-same InArray.Comma k f g ArrayState.NeedsComma a b ts e = ap (λ x. receiver.valueSep a b ▹ x) (e needsValue ts (le-refl _))
   array-same InArray.Equals k f g st a b ts e = ap (λ x. report message.unexpectedEqualsInArray expected.valueOrCloseSquare head (span a b) ▹ receiver.error a b ▹ x) (e st ts (le-refl _))
   array-same InArray.OpenCurly k f g st a b ts e = ap (λ x. missingComma head st a b ▸ x) (same-then (nest Bracket.Curly a b ts) (f needsComma) (g needsComma) (length ts) (short Bracket.Curly a b ts) (e needsComma))
-  array-same InArray.CloseCurly k f g st a b ts e = ap (λ x. missingComma head st a b ▸ report message.missingInlineTableOpening expected.openCurly (span a b) (before a b) ▹ receiver.inlineTableOpen a a ▹ receiver.inlineTableClose a b ▹ x) (e needsComma ts (le-refl _))
+  array-same InArray.CloseCurly k f g st a b ts e = ap (λ x. missingComma head st a b ▸ withoutOpen Bracket.Curly a b ▸ x) (e needsComma ts (le-refl _))
   array-same InArray.OpenSquare k f g st a b ts e = ap (λ x. missingComma head st a b ▸ x) (same-then (nest Bracket.Square a b ts) (f needsComma) (g needsComma) (length ts) (short Bracket.Square a b ts) (e needsComma))
   array-same InArray.CloseSquare k f g st a b ts e = refl
   array-same InArray.Scalar k f g st a b ts e = ap (λ x. missingComma head st a b ▸ x) (same-then (onScalar k a b ts) (f needsComma) (g needsComma) (length ts) (scalar-short k a b ts) (e needsComma))
@@ -110,7 +111,7 @@ module _ (head : Place) (nest : Nest) (short : (bracket : Bracket) (a b : ℕ) (
   table-same opened A.UnassignedArray k f g st empty a b ts d e = ap (λ x. report message.missingAssignment (wanted st) head (before a b) ▹ x) (same-then (nest Bracket.Square a b ts) (f (table State.NeedsComma)) (g (table State.NeedsComma)) (length ts) (short Bracket.Square a b ts) (e (table State.NeedsComma)))
   table-same opened A.Array k f g st empty a b ts d e = same-then (nest Bracket.Square a b ts) (f (table State.NeedsComma)) (g (table State.NeedsComma)) (length ts) (short Bracket.Square a b ts) (e (table State.NeedsComma))
   table-same opened A.InvalidElement k f g st empty a b ts d e = ap (λ x. refused message.invalidInlineTableElement st head a b ▸ x) (e (progress st empty) ts (le-refl _))
-  table-same opened A.ArrayWithoutOpen k f g st empty a b ts d e = ap (λ x. report message.missingArrayOpening expected.openSquare (span a b) (before a b) ▹ receiver.arrayOpen a a ▹ receiver.arrayClose a b ▹ x) (e (table State.NeedsComma) ts (le-refl _))
+  table-same opened A.ArrayWithoutOpen k f g st empty a b ts d e = ap (λ x. withoutOpen Bracket.Square a b ▸ x) (e (table State.NeedsComma) ts (le-refl _))
   table-same opened A.DotKey k f g st empty a b ts d e = ap (λ x. receiver.simpleKey Encoding.None a a ▹ x) (same-then (optDotKeys (tok k a b ∷ ts)) (f (table State.NeedsEquals)) (g (table State.NeedsEquals)) (length ts) (dot-short k a b ts d) (e (table State.NeedsEquals)))
   table-same opened A.Key k f g st empty a b ts d e = ap (λ x. receiver.simpleKey (encodingAt k) a b ▹ x) (same-then (optDotKeys ts) (f (table State.NeedsEquals)) (g (table State.NeedsEquals)) (length ts) (dots-short ts) (e (table State.NeedsEquals)))
   table-same opened A.UnassignedScalar k f g st empty a b ts d e = ap (λ x. report message.missingAssignment (wanted st) head (before a b) ▹ x) (same-then (onScalar k a b ts) (f (table State.NeedsComma)) (g (table State.NeedsComma)) (length ts) (scalar-short k a b ts) (e (table State.NeedsComma)))

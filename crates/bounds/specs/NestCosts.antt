@@ -7,7 +7,7 @@ use native.Mathlib.Nat.{le-of-eq}
 use native.Mathlib.Omega.{arith}
 use lib.ListN.{length}
 use Rattle.token.specs.declared.kind.Kind.{Kind}
-use Rattle.token.specs.declared.kind.Kind.the-variants.{Dot, Equals, Comma, LeftSquareBracket, RightSquareBracket, LeftCurlyBracket, RightCurlyBracket, Whitespace, Comment, Newline, LiteralString, BasicString, MlLiteralString, MlBasicString, Atom, Eof}
+use Rattle.token.specs.KindLaws.{every-kind}
 use Rattle.token.specs.Tokens.{Tok, tok}
 use Rattle.rules.specs.declared.event.Encoding.{Encoding}
 use Rattle.rules.specs.declared.skipping.Bracket.{Bracket}
@@ -60,29 +60,11 @@ Dotted A.Scalar k = Unit {0}
 Dotted A.DotKeyWithoutComma k = inKey k ≡ InKey.Dot
 Dotted A.KeyWithoutComma k = Unit {0}
 
-by-kind : (P : Kind → Type 0) → P Dot → P Equals → P Comma → P LeftSquareBracket → P RightSquareBracket → P LeftCurlyBracket → P RightCurlyBracket → P Whitespace → P Comment → P Newline → P LiteralString → P BasicString → P MlLiteralString → P MlBasicString → P Atom → P Eof → (k : Kind) → P k
-by-kind P p1 p2 p3 p4 p5 p6 p7 p8 p9 p10 p11 p12 p13 p14 p15 p16 Dot = p1
-by-kind P p1 p2 p3 p4 p5 p6 p7 p8 p9 p10 p11 p12 p13 p14 p15 p16 Equals = p2
-by-kind P p1 p2 p3 p4 p5 p6 p7 p8 p9 p10 p11 p12 p13 p14 p15 p16 Comma = p3
-by-kind P p1 p2 p3 p4 p5 p6 p7 p8 p9 p10 p11 p12 p13 p14 p15 p16 LeftSquareBracket = p4
-by-kind P p1 p2 p3 p4 p5 p6 p7 p8 p9 p10 p11 p12 p13 p14 p15 p16 RightSquareBracket = p5
-by-kind P p1 p2 p3 p4 p5 p6 p7 p8 p9 p10 p11 p12 p13 p14 p15 p16 LeftCurlyBracket = p6
-by-kind P p1 p2 p3 p4 p5 p6 p7 p8 p9 p10 p11 p12 p13 p14 p15 p16 RightCurlyBracket = p7
-by-kind P p1 p2 p3 p4 p5 p6 p7 p8 p9 p10 p11 p12 p13 p14 p15 p16 Whitespace = p8
-by-kind P p1 p2 p3 p4 p5 p6 p7 p8 p9 p10 p11 p12 p13 p14 p15 p16 Comment = p9
-by-kind P p1 p2 p3 p4 p5 p6 p7 p8 p9 p10 p11 p12 p13 p14 p15 p16 Newline = p10
-by-kind P p1 p2 p3 p4 p5 p6 p7 p8 p9 p10 p11 p12 p13 p14 p15 p16 LiteralString = p11
-by-kind P p1 p2 p3 p4 p5 p6 p7 p8 p9 p10 p11 p12 p13 p14 p15 p16 BasicString = p12
-by-kind P p1 p2 p3 p4 p5 p6 p7 p8 p9 p10 p11 p12 p13 p14 p15 p16 MlLiteralString = p13
-by-kind P p1 p2 p3 p4 p5 p6 p7 p8 p9 p10 p11 p12 p13 p14 p15 p16 MlBasicString = p14
-by-kind P p1 p2 p3 p4 p5 p6 p7 p8 p9 p10 p11 p12 p13 p14 p15 p16 Atom = p15
-by-kind P p1 p2 p3 p4 p5 p6 p7 p8 p9 p10 p11 p12 p13 p14 p15 p16 Eof = p16
-
 pub dotted : (st : State) (k : Kind) → Dotted (actionOf st k) k
-dotted State.NeedsKey k = by-kind (λ (j : Kind). Dotted (actionOf State.NeedsKey j) j) refl tt tt tt tt tt tt tt tt tt tt tt tt tt tt tt k
-dotted State.NeedsEquals k = by-kind (λ (j : Kind). Dotted (actionOf State.NeedsEquals j) j) tt tt tt tt tt tt tt tt tt tt tt tt tt tt tt tt k
-dotted State.NeedsValue k = by-kind (λ (j : Kind). Dotted (actionOf State.NeedsValue j) j) tt tt tt tt tt tt tt tt tt tt tt tt tt tt tt tt k
-dotted State.NeedsComma k = by-kind (λ (j : Kind). Dotted (actionOf State.NeedsComma j) j) refl tt tt tt tt tt tt tt tt tt tt tt tt tt tt tt k
+dotted State.NeedsKey k = every-kind (λ (j : Kind). Dotted (actionOf State.NeedsKey j) j) refl tt tt tt tt tt tt tt tt tt tt tt tt tt tt tt k
+dotted State.NeedsEquals k = every-kind (λ (j : Kind). Dotted (actionOf State.NeedsEquals j) j) tt tt tt tt tt tt tt tt tt tt tt tt tt tt tt tt k
+dotted State.NeedsValue k = every-kind (λ (j : Kind). Dotted (actionOf State.NeedsValue j) j) tt tt tt tt tt tt tt tt tt tt tt tt tt tt tt tt k
+dotted State.NeedsComma k = every-kind (λ (j : Kind). Dotted (actionOf State.NeedsComma j) j) refl tt tt tt tt tt tt tt tt tt tt tt tt tt tt tt k
 
 pub dotted-costs : (k : Kind) (a b : ℕ) (ts : List Tok) → inKey k ≡ InKey.Dot → Costs ts 2 0 (optDotKeys (tok k a b ∷ ts))
 dotted-costs k a b ts e =
@@ -179,10 +161,10 @@ action-few A.KeyWithoutComma ts = (omega arith, omega arith)
 
 -- none of these where a key is wanted, and no key where `=` is
 key-wanted : (k : Kind) → actionErrors (actionOf State.NeedsKey k) ≡ 0
-key-wanted k = by-kind (λ (j : Kind). actionErrors (actionOf State.NeedsKey j) ≡ 0) refl refl refl refl refl refl refl refl refl refl refl refl refl refl refl refl k
+key-wanted k = every-kind (λ (j : Kind). actionErrors (actionOf State.NeedsKey j) ≡ 0) refl refl refl refl refl refl refl refl refl refl refl refl refl refl refl refl k
 
 equals-wanted : (k : Kind) (ts : List Tok) → actionEvents (actionOf State.NeedsEquals k) ts ≡ 0
-equals-wanted k ts = by-kind (λ (j : Kind). actionEvents (actionOf State.NeedsEquals j) ts ≡ 0) refl refl refl refl refl refl refl refl refl refl refl refl refl refl refl refl k
+equals-wanted k ts = every-kind (λ (j : Kind). actionEvents (actionOf State.NeedsEquals j) ts ≡ 0) refl refl refl refl refl refl refl refl refl refl refl refl refl refl refl refl k
 
 -- what comes besides in an inline table, by its state and the tokens that are left
 abbrev inTableEvents : State → List Tok → ℕ

@@ -4,9 +4,10 @@ use mathlib.Core.Bool.{true, false}
 use mathlib.Core.List.{List}
 use Prim.Native.Nat.{ℕ, _-_}
 use native.Mathlib.Omega.{arith}
+use Rattle.token.specs.KindLaws.{every-kind}
 use Rattle.token.specs.Tokens.{Tok, allTokens, tokensAt, Took}
 use Rattle.token.specs.declared.kind.Kind.{Kind}
-use Rattle.token.specs.declared.kind.Kind.the-variants.{Dot, Equals, Comma, LeftSquareBracket, RightSquareBracket, LeftCurlyBracket, RightCurlyBracket, Whitespace, Comment, Newline, LiteralString, BasicString, MlLiteralString, MlBasicString, Atom, Eof}
+use Rattle.token.specs.declared.kind.Kind.the-variants.{Dot, Equals}
 use Rattle.token.specs.declared.cursor.Token.{Token}
 use Rattle.token.specs.declared.cursor.Cursor.{Cursor}
 use Rattle.rules.specs.declared.document.InDocument.{InDocument}
@@ -90,22 +91,7 @@ KindIs InDocument.Comment k = Unit {0}
 KindIs InDocument.Eof k = Unit {0}
 
 kind-is : (k : Kind) → KindIs (inDocument k) k
-kind-is Dot = refl
-kind-is Equals = refl
-kind-is Comma = tt
-kind-is LeftSquareBracket = tt
-kind-is RightSquareBracket = tt
-kind-is LeftCurlyBracket = tt
-kind-is RightCurlyBracket = tt
-kind-is Whitespace = tt
-kind-is Comment = tt
-kind-is Newline = tt
-kind-is LiteralString = tt
-kind-is BasicString = tt
-kind-is MlLiteralString = tt
-kind-is MlBasicString = tt
-kind-is Atom = tt
-kind-is Eof = tt
+kind-is = every-kind (λ (k : Kind). KindIs (inDocument k) k) refl refl tt tt tt tt tt tt tt tt tt tt tt tt tt tt
 
 pub document-dot : (k : Kind) (x : InDocument) → x ≡ inDocument k → x ≡ InDocument.Dot → k ≡ Dot
 document-dot k x p q = subst (λ (z : InDocument). KindIs z k) (sym p ∙ q) (kind-is k)

@@ -20,6 +20,7 @@ use Rattle.rules.specs.Receiver as receiver
 use Rattle.rules.specs.Document.{documentStep, documentTurn, expression, onExpressionKey, onExpressionDot, onExpressionKeyValSep}
 use Rattle.output.specs.declared.emitting.Counts.{Counts}
 use Rattle.output.specs.Pour.{Bufs, bufs, put}
+use Rattle.output.specs.MeetLaws.{met-at}
 use Rattle.nest.specs.declared.nest.NestWalk.{NestWalk}
 use Rattle.nest.specs.Nested.{Nested}
 use Rattle.nest.specs.NestedLaws.{nested-item, nested-as, nested-past}
@@ -86,9 +87,7 @@ abbrev pub Met : ℕ → List ℕ → Cursor → Bufs → Cursor → List ℕ �
 Met levels s c o d a b n m l = Begun levels s c o d (bufs a b n) m × (length a ≡ l)
 
 pub meet : {levels : ℕ} {s : List ℕ} {c d d' : Cursor} {o : Bufs} {a a' : List ℕ} {n n' : Counts} {m m' l : ℕ} (b : List ℕ) → a' ≡ a → d' ≡ d → n' ≡ n → m' ≡ m → Met levels s c o d a b n m l → Met levels s c o d' a' b n' m' l
-meet {levels} {s} {c} {d} {d'} {o} {a} {a'} {n} {n'} {m} {m'} {l} b p q u v x =
-    subst (λ (y : List ℕ). Met levels s c o d' y b n' m' l) (sym p)
-    (subst (λ (y : Cursor). Met levels s c o y a b n' m' l) (sym q) (subst (λ (y : Counts). Met levels s c o d a b y m' l) (sym u) (subst (λ (y : ℕ). Met levels s c o d a b n y l) (sym v) x)))
+meet {levels} {s} {c} {o = o} {l = l} b p q u v x = met-at (λ (a : List ℕ) (d : Cursor) (n : Counts) (m : ℕ). Met levels s c o d a b n m l) p q u v x
 
 pub any-of : {A B C : Type 0} (P : Type 0) → A ⊎ (B ⊎ C) → (A → P) → (B → P) → (C → P) → P
 any-of P x f g h = ⊎-elim f (⊎-elim g h) x

@@ -21,6 +21,7 @@ use Rattle.output.specs.declared.emitting.Counts.{Counts}
 use Rattle.output.specs.declared.emitting.Walk.{Walk}
 use Rattle.output.specs.Pour.{Bufs, bufs}
 use Rattle.output.specs.Walks.{Goes}
+use Rattle.output.specs.MeetLaws.{met-at}
 use Rattle.output.specs.WalkLaws.{by-rule, run-done, goes-by, goes-on, goes-rest}
 use Rattle.nest.specs.declared.nest.NestWalk.{NestWalk}
 use Rattle.nest.specs.Nested.{Nested}
@@ -56,10 +57,7 @@ abbrev pub Met : List ℕ → Cursor → Bufs → List ℕ → List ℕ → Walk
 Met s c o a b w k l = Before s c o a b w × (length a ≡ k) × (length b ≡ l)
 
 pub meet : {s : List ℕ} {c cur : Cursor} {n : Counts} {o : Bufs} {a b a' b' : List ℕ} {k l : ℕ} (w : Walk) → a' ≡ a → b' ≡ b → cur ≡ w .cur → n ≡ w .n → Met s c o a b w k l → Met s c o a' b' (record { cur = cur; n = n }) k l
-meet {s} {c} {cur} {n} {o} {a} {b} {a'} {b'} {k} {l} w u v p q x =
-    subst (λ (y : List ℕ). Met s c o a' y (record { cur = cur; n = n }) k l) (sym v)
-    (subst (λ (y : List ℕ). Met s c o y b (record { cur = cur; n = n }) k l) (sym u)
-    (subst (λ (y : Cursor). Met s c o a b (record { cur = y; n = n }) k l) (sym p) (subst (λ (y : Counts). Met s c o a b (record { cur = w .cur; n = y }) k l) (sym q) x)))
+meet {s} {c} {o = o} {k = k} {l} w u v p q x = met-at (λ (a b : List ℕ) (cur : Cursor) (n : Counts). Met s c o a b (record { cur = cur; n = n }) k l) u v p q x
 
 pub either : {A B : Type 0} (P : Type 0) → A ⊎ B → (A → P) → (B → P) → P
 either P x f g = ⊎-elim f g x

@@ -1,14 +1,14 @@
 -- The table of action numbers is the rule's table of actions: each row, number by number, in one computed test. Assumes nothing.
 use mathlib.Core.Path.{_≡_, refl, ap, _∙_}
 use mathlib.Core.List.{List, [], _∷_}
-use Prim.Native.Nat.{ℕ, zero, suc, _-_, _<_, _≤_}
+use Prim.Native.Nat.{ℕ, zero, suc, _-_, _<_}
 use native.Mathlib.Nat.{not-suc-le-zero, le-of-suc-le-suc}
 use native.Mathlib.Bridge.{le-by-compare, IsLe}
 use native.Mathlib.Omega.{arith}
 use lib.ListN.{length, getD}
 use Rattle.token.specs.declared.kind.Kind.{Kind}
-use Rattle.token.specs.declared.kind.Kind.the-variants.{Dot, Equals, Comma, LeftSquareBracket, RightSquareBracket, LeftCurlyBracket, RightCurlyBracket, Whitespace, Comment, Newline, LiteralString, BasicString, MlLiteralString, MlBasicString, Atom, Eof}
 use Rattle.token.specs.Kinds.{numberOf}
+use Rattle.token.specs.KindLaws.{number-range}
 use Rattle.rules.specs.declared.inline_table.State.{State}
 use Rattle.rules.specs.declared.inline_table.Action.{Action}
 use Rattle.rules.specs.declared.inline_table.Action.the-variants as A
@@ -73,27 +73,8 @@ row-small State.NeedsEquals = le-by-compare 2 4 tt
 row-small State.NeedsValue = le-by-compare 3 4 tt
 row-small State.NeedsComma = le-by-compare 4 4 tt
 
-pub kind-small : (k : Kind) → (1 ≤ numberOf k) × (numberOf k ≤ 16)
-unfolding IsLe
-kind-small Dot = (le-by-compare 1 1 tt, le-by-compare 1 16 tt)
-kind-small Equals = (le-by-compare 1 2 tt, le-by-compare 2 16 tt)
-kind-small Comma = (le-by-compare 1 3 tt, le-by-compare 3 16 tt)
-kind-small LeftSquareBracket = (le-by-compare 1 4 tt, le-by-compare 4 16 tt)
-kind-small RightSquareBracket = (le-by-compare 1 5 tt, le-by-compare 5 16 tt)
-kind-small LeftCurlyBracket = (le-by-compare 1 6 tt, le-by-compare 6 16 tt)
-kind-small RightCurlyBracket = (le-by-compare 1 7 tt, le-by-compare 7 16 tt)
-kind-small Whitespace = (le-by-compare 1 8 tt, le-by-compare 8 16 tt)
-kind-small Comment = (le-by-compare 1 9 tt, le-by-compare 9 16 tt)
-kind-small Newline = (le-by-compare 1 10 tt, le-by-compare 10 16 tt)
-kind-small LiteralString = (le-by-compare 1 11 tt, le-by-compare 11 16 tt)
-kind-small BasicString = (le-by-compare 1 12 tt, le-by-compare 12 16 tt)
-kind-small MlLiteralString = (le-by-compare 1 13 tt, le-by-compare 13 16 tt)
-kind-small MlBasicString = (le-by-compare 1 14 tt, le-by-compare 14 16 tt)
-kind-small Atom = (le-by-compare 1 15 tt, le-by-compare 15 16 tt)
-kind-small Eof = (le-by-compare 1 16 tt, le-by-compare 16 16 tt)
-
 column-small : (k : Kind) → numberOf k - 1 < 16
-column-small k = omega (arith, kind-small k .0, kind-small k .1)
+column-small k = omega (arith, number-range k .0, number-range k .1)
 
 -- the rule, at each state and kind
 pub table-right : (st : State) (k : Kind) → actionFrom (getD (getD actionTable (rowOf st) []) (numberOf k - 1) 0) ≡ actionOf st k

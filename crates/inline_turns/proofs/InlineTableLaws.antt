@@ -5,10 +5,11 @@ use Prim.Native.Nat.{ℕ, suc, _-_, _≤_}
 use native.Mathlib.Omega.{arith}
 use lib.ListN.{length}
 use Rattle.token.specs.Records.{count}
+use Rattle.token.specs.KindLaws.{every-kind}
 use Rattle.token.specs.Tokens.{Tok, allTokens, tokensAt, Took}
 use Rattle.token.specs.CursorLaws.{all-length, left-length}
 use Rattle.token.specs.declared.kind.Kind.{Kind}
-use Rattle.token.specs.declared.kind.Kind.the-variants.{Dot, Equals, Comma, LeftSquareBracket, RightSquareBracket, LeftCurlyBracket, RightCurlyBracket, Whitespace, Comment, Newline, LiteralString, BasicString, MlLiteralString, MlBasicString, Atom, Eof}
+use Rattle.token.specs.declared.kind.Kind.the-variants.{Dot}
 use Rattle.token.specs.declared.cursor.Token.{Token}
 use Rattle.token.specs.declared.cursor.Cursor.{Cursor}
 use Rattle.rules.specs.declared.inline_table.Action.{Action}
@@ -59,30 +60,12 @@ Tells A.DotKey k = k ≡ Dot
 Tells A.KeyWithoutComma k = Unit {0}
 Tells A.DotKeyWithoutComma k = k ≡ Dot
 
--- each column of the table, at the four states
-column : (k : Kind) → Tells (actionOf State.NeedsKey k) k × Tells (actionOf State.NeedsEquals k) k × Tells (actionOf State.NeedsValue k) k × Tells (actionOf State.NeedsComma k) k
-column Dot = (refl, tt, tt, refl)
-column Equals = (tt, tt, tt, tt)
-column Comma = (tt, tt, tt, tt)
-column LeftSquareBracket = (tt, tt, tt, tt)
-column RightSquareBracket = (tt, tt, tt, tt)
-column LeftCurlyBracket = (tt, tt, tt, tt)
-column RightCurlyBracket = (tt, tt, tt, tt)
-column Whitespace = (tt, tt, tt, tt)
-column Comment = (tt, tt, tt, tt)
-column Newline = (tt, tt, tt, tt)
-column LiteralString = (tt, tt, tt, tt)
-column BasicString = (tt, tt, tt, tt)
-column MlLiteralString = (tt, tt, tt, tt)
-column MlBasicString = (tt, tt, tt, tt)
-column Atom = (tt, tt, tt, tt)
-column Eof = (tt, tt, tt, tt)
-
+-- the table, a state a line
 tells : (st : State) (k : Kind) → Tells (actionOf st k) k
-tells State.NeedsKey k = column k .0
-tells State.NeedsEquals k = column k .1
-tells State.NeedsValue k = column k .2
-tells State.NeedsComma k = column k .3
+tells State.NeedsKey = every-kind (λ (k : Kind). Tells (actionOf State.NeedsKey k) k) refl tt tt tt tt tt tt tt tt tt tt tt tt tt tt tt
+tells State.NeedsEquals = every-kind (λ (k : Kind). Tells (actionOf State.NeedsEquals k) k) tt tt tt tt tt tt tt tt tt tt tt tt tt tt tt tt
+tells State.NeedsValue = every-kind (λ (k : Kind). Tells (actionOf State.NeedsValue k) k) tt tt tt tt tt tt tt tt tt tt tt tt tt tt tt tt
+tells State.NeedsComma = every-kind (λ (k : Kind). Tells (actionOf State.NeedsComma k) k) refl tt tt tt tt tt tt tt tt tt tt tt tt tt tt tt
 
 pub action-tells : (st : State) (k : Kind) (x y : Action) → x ≡ actionOf st k → x ≡ y → Tells y k
 action-tells st k x y p q = subst (λ (z : Action). Tells z k) (sym p ∙ q) (tells st k)

@@ -4,6 +4,7 @@ use crate::table_turn::again;
 use crate::table_turn::opening;
 use crate::table_turn::over;
 use crate::table_turn::read;
+use array_parts::brackets::without_open;
 use array_parts::turn::Next;
 use array_parts::turn::unclosed;
 use inline_parts::actions::action_at;
@@ -17,15 +18,12 @@ use output::emitting::Walk;
 use output::emitting::emit;
 use output::emitting::empty_key;
 use output::emitting::report_at;
-use output::emitting::report_before;
 use output::expected::CLOSE_CURLY;
 use output::expected::NOTHING;
-use output::expected::OPEN_SQUARE;
 use output::message::COMMENT_IN_INLINE_TABLE;
 use output::message::EXTRA_ASSIGNMENT;
 use output::message::EXTRA_COMMA_IN_INLINE_TABLE;
 use output::message::INVALID_INLINE_TABLE_ELEMENT;
-use output::message::MISSING_ARRAY_OPENING;
 use output::message::MISSING_ASSIGNMENT;
 use output::message::MISSING_COMMA_IN_INLINE_TABLE;
 use output::message::MISSING_KEY_IN_INLINE_TABLE;
@@ -171,9 +169,7 @@ pub fn inline_table_turn(
             again(Walk { cur: past, n }, p)
         }
         Action::ArrayWithoutOpen => {
-            let i = report_before(errors, m, MISSING_ARRAY_OPENING, OPEN_SQUARE, t, t);
-            let j = emit(events, i, Event::ArrayOpen, t.start, t.start);
-            let n = emit(events, j, Event::ArrayClose, t.start, t.end);
+            let n = without_open(m, Bracket::Square, t, events, errors);
             read(Walk { cur: past, n }, State::NeedsComma)
         }
         Action::Key => {

@@ -14,6 +14,7 @@ use Rattle.token.specs.declared.cursor.Token.{Token}
 use Rattle.token.specs.declared.cursor.Cursor.{Cursor}
 use Rattle.token.specs.Limits.{maxEnd}
 use Rattle.token.specs.Kinds.{numberOf, inSearch, Width, oneByte, widthOf}
+use Rattle.token.specs.KindLaws.{every-kind}
 use Rattle.token.specs.Records.{count, lengthAt, kindAt, startAt}
 use Rattle.token.specs.Tokens.{Tok, tok, tokensFrom, allTokens, tokensAt, At, Good, Took}
 use Rattle.token.specs.CursorLaws.{at-start, start-next, took, all-length, left-length}
@@ -217,22 +218,7 @@ OneByte InSearch.Trivia kind = Unit {0}
 OneByte InSearch.Other kind = Unit {0}
 
 one-byte : (kind : Kind) → OneByte (inSearch kind) kind
-one-byte Kind.Dot = tt
-one-byte Kind.Equals = tt
-one-byte Kind.Comma = (refl, refl)
-one-byte Kind.LeftSquareBracket = tt
-one-byte Kind.RightSquareBracket = tt
-one-byte Kind.LeftCurlyBracket = tt
-one-byte Kind.RightCurlyBracket = tt
-one-byte Kind.Whitespace = tt
-one-byte Kind.Comment = tt
-one-byte Kind.Newline = tt
-one-byte Kind.LiteralString = tt
-one-byte Kind.BasicString = tt
-one-byte Kind.MlLiteralString = tt
-one-byte Kind.MlBasicString = tt
-one-byte Kind.Atom = tt
-one-byte Kind.Eof = tt
+one-byte = every-kind (λ (kind : Kind). OneByte (inSearch kind) kind) tt tt (refl, refl) tt tt tt tt tt tt tt tt tt tt tt tt tt
 
 module _ {s : List ℕ} {base : ℕ} {c d : Cursor} {m : Comma} {line : ℕ} {t : Token} (x : Counted s base (record { cur = c; comma = m; line = line })) (k : Took s c t d) where
   laid-here : Spans (widthOf (t .kind)) (t .start) (t .end) × Laid (t .end) (tokensAt s d)

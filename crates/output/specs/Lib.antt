@@ -5,3 +5,4 @@ pub mod TurnLaws
 pub mod LookLaws
 pub mod NextLaws
 pub mod CapLaws
+pub mod MeetLaws

@@ -11,6 +11,7 @@ use Rattle.rules.specs.Out.{Place, span, before, afterFound, Item, repor
 use Rattle.rules.specs.Messages as message
 use Rattle.rules.specs.Expected as expected
 use Rattle.rules.specs.Receiver as receiver
+use Rattle.rules.specs.WithoutOpen.{withoutOpen}
 use Rattle.rules.specs.Skipping.{onComment}
 use Rattle.rules.specs.Keys.{lastSignificant}
 use Rattle.rules.specs.Scalar.{onScalar}
@@ -56,7 +57,7 @@ arrayStep InArray.Eof k head nest loop st a b ts = report message.unclosedArray 
 arrayStep InArray.Comma k head nest loop st a b ts = arrayComma st head loop a b ts
 arrayStep InArray.Equals k head nest loop st a b ts = report message.unexpectedEqualsInArray expected.valueOrCloseSquare head (span a b) ▹ receiver.error a b ▹ loop st ts
 arrayStep InArray.OpenCurly k head nest loop st a b ts = missingComma head st a b ▸ (nest Bracket.Curly a b ts then loop ArrayState.NeedsComma)
-arrayStep InArray.CloseCurly k head nest loop st a b ts = missingComma head st a b ▸ report message.missingInlineTableOpening expected.openCurly (span a b) (before a b) ▹ receiver.inlineTableOpen a a ▹ receiver.inlineTableClose a b ▹ loop ArrayState.NeedsComma ts
+arrayStep InArray.CloseCurly k head nest loop st a b ts = missingComma head st a b ▸ withoutOpen Bracket.Curly a b ▸ loop ArrayState.NeedsComma ts
 arrayStep InArray.OpenSquare k head nest loop st a b ts = missingComma head st a b ▸ (nest Bracket.Square a b ts then loop ArrayState.NeedsComma)
 arrayStep InArray.CloseSquare k head nest loop st a b ts = receiver.arrayClose a b ▹ done ts
 arrayStep InArray.Scalar k head nest loop st a b ts = missingComma head st a b ▸ (onScalar k a b ts then loop ArrayState.NeedsComma)

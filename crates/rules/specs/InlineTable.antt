@@ -17,6 +17,7 @@ use Rattle.rules.specs.Out.{Place, span, before, afterFound, Item, repor
 use Rattle.rules.specs.Messages as message
 use Rattle.rules.specs.Expected as expected
 use Rattle.rules.specs.Receiver as receiver
+use Rattle.rules.specs.WithoutOpen.{withoutOpen}
 use Rattle.rules.specs.Skipping.{onComment, ignoreToValueClose}
 use Rattle.rules.specs.Keys.{inKey, lastSignificant, optDotKeys}
 use Rattle.rules.specs.Scalar.{onScalar}
@@ -88,7 +89,7 @@ inlineTableStep A.KeylessArray k head opened nest loop st empty a b ts = refused
 inlineTableStep A.UnassignedArray k head opened nest loop st empty a b ts = report message.missingAssignment (wanted st) head (before a b) ▹ (nest Bracket.Square a b ts then loop (progress State.NeedsComma false))
 inlineTableStep A.Array k head opened nest loop st empty a b ts = nest Bracket.Square a b ts then loop (progress State.NeedsComma false)
 inlineTableStep A.InvalidElement k head opened nest loop st empty a b ts = refused message.invalidInlineTableElement st head a b ▸ loop (progress st empty) ts
-inlineTableStep A.ArrayWithoutOpen k head opened nest loop st empty a b ts = report message.missingArrayOpening expected.openSquare (span a b) (before a b) ▹ receiver.arrayOpen a a ▹ receiver.arrayClose a b ▹ loop (progress State.NeedsComma false) ts
+inlineTableStep A.ArrayWithoutOpen k head opened nest loop st empty a b ts = withoutOpen Bracket.Square a b ▸ loop (progress State.NeedsComma false) ts
 inlineTableStep A.DotKey k head opened nest loop st empty a b ts = receiver.simpleKey Encoding.None a a ▹ (optDotKeys (tok k a b ∷ ts) then loop (progress State.NeedsEquals false))
 inlineTableStep A.Key k head opened nest loop st empty a b ts = receiver.simpleKey (encodingAt k) a b ▹ (optDotKeys ts then loop (progress State.NeedsEquals false))
 inlineTableStep A.UnassignedScalar k head opened nest loop st empty a b ts = report message.missingAssignment (wanted st) head (before a b) ▹ (onScalar k a b ts then loop (progress State.NeedsComma false))

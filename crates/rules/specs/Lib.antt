@@ -3,6 +3,7 @@ pub mod Messages
 pub mod Expected
 pub mod Out
 pub mod Receiver
+pub mod WithoutOpen
 pub mod Turns
 pub mod Skipping
 pub mod Keys

@@ -5,11 +5,13 @@ use Rattle.token.specs.declared.kind.Kind.{Kind}
 use Rattle.token.specs.declared.kind.Kind.the-variants.{Dot, Equals, Comma, LeftSquareBracket, RightSquareBracket, LeftCurlyBracket, RightCurlyBracket, Whitespace, Comment, Newline, LiteralString, BasicString, MlLiteralString, MlBasicString, Atom, Eof}
 use Rattle.token.specs.Tokens.{Tok, tok}
 use Rattle.rules.specs.declared.event.Encoding.{Encoding}
+use Rattle.rules.specs.declared.skipping.Bracket.{Bracket}
 use Rattle.rules.specs.declared.value.InValue.{InValue}
-use Rattle.rules.specs.Out.{span, before, found, afterFound, report, Out, done, _▹_}
+use Rattle.rules.specs.Out.{span, found, afterFound, report, Out, done, _▹_, _▸_}
 use Rattle.rules.specs.Messages as message
 use Rattle.rules.specs.Expected as expected
 use Rattle.rules.specs.Receiver as receiver
+use Rattle.rules.specs.WithoutOpen.{withoutOpen}
 use Rattle.rules.specs.Keys.{lastSignificant}
 use Rattle.rules.specs.Scalar.{onScalar}
 use Rattle.rules.specs.Nest.{onArrayOpen, onInlineTableOpen}
@@ -38,9 +40,9 @@ abbrev pub valueStep : InValue → ℕ → Kind → ℕ → ℕ → List Tok →
 valueStep InValue.Nothing levels k a b ts here again = receiver.scalar Encoding.None a a ▹ here
 valueStep InValue.Equals levels k a b ts here again = report message.extraEquals expected.nothing (span a b) (span a b) ▹ receiver.error a b ▹ again
 valueStep InValue.OpenCurly levels k a b ts here again = onInlineTableOpen levels a b ts
-valueStep InValue.CloseCurly levels k a b ts here again = report message.missingInlineTableOpening expected.openCurly (span a b) (before a b) ▹ receiver.inlineTableOpen a a ▹ receiver.inlineTableClose a b ▹ done ts
+valueStep InValue.CloseCurly levels k a b ts here again = withoutOpen Bracket.Curly a b ▸ done ts
 valueStep InValue.OpenSquare levels k a b ts here again = onArrayOpen levels a b ts
-valueStep InValue.CloseSquare levels k a b ts here again = report message.missingArrayOpening expected.openSquare (span a b) (before a b) ▹ receiver.arrayOpen a a ▹ receiver.arrayClose a b ▹ done ts
+valueStep InValue.CloseSquare levels k a b ts here again = withoutOpen Bracket.Square a b ▸ done ts
 valueStep InValue.Scalar levels k a b ts here again = onScalar k a b ts
 
 abbrev pub value : ℕ → List Tok → Out

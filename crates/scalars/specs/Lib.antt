@@ -1,1 +1,2 @@
 pub mod ScalarWalks
+pub mod StartLaws

@@ -6,25 +6,31 @@ use Rattle.token.specs.declared.kind.Kind.{Kind}
 use Rattle.token.specs.declared.kind.Kind.the-variants.{Dot, Equals, Comma, LeftSquareBracket, RightSquareBracket, LeftCurlyBracket, RightCurlyBracket, Whitespace, Comment, Newline, LiteralString, BasicString, MlLiteralString, MlBasicString, Atom, Eof}
 use Rattle.token.specs.Kinds.{kindOf, numberOf}
 
+-- what is shown of each of the sixteen kinds, in the order of their numbers, holds of every kind
+module _ (P : Kind → Type 0) (dot : P Dot) (equals : P Equals) (comma : P Comma) (openSquare : P LeftSquareBracket) (closeSquare : P RightSquareBracket) (openCurly : P LeftCurlyBracket) (closeCurly : P RightCurlyBracket)
+    (whitespace : P Whitespace) (comment : P Comment) (newline : P Newline) (literal : P LiteralString) (basic : P BasicString) (mlLiteral : P MlLiteralString) (mlBasic : P MlBasicString) (atom : P Atom) (eof : P Eof) where
+  pub every-kind : (k : Kind) → P k
+  every-kind Dot = dot
+  every-kind Equals = equals
+  every-kind Comma = comma
+  every-kind LeftSquareBracket = openSquare
+  every-kind RightSquareBracket = closeSquare
+  every-kind LeftCurlyBracket = openCurly
+  every-kind RightCurlyBracket = closeCurly
+  every-kind Whitespace = whitespace
+  every-kind Comment = comment
+  every-kind Newline = newline
+  every-kind LiteralString = literal
+  every-kind BasicString = basic
+  every-kind MlLiteralString = mlLiteral
+  every-kind MlBasicString = mlBasic
+  every-kind Atom = atom
+  every-kind Eof = eof
+
 -- from kind to number and back
 pub kind-back : (k : Kind) → kindOf (numberOf k) ≡ k
 unfolding kindOf
-kind-back Dot = refl
-kind-back Equals = refl
-kind-back Comma = refl
-kind-back LeftSquareBracket = refl
-kind-back RightSquareBracket = refl
-kind-back LeftCurlyBracket = refl
-kind-back RightCurlyBracket = refl
-kind-back Whitespace = refl
-kind-back Comment = refl
-kind-back Newline = refl
-kind-back LiteralString = refl
-kind-back BasicString = refl
-kind-back MlLiteralString = refl
-kind-back MlBasicString = refl
-kind-back Atom = refl
-kind-back Eof = refl
+kind-back = every-kind (λ (k : Kind). kindOf (numberOf k) ≡ k) refl refl refl refl refl refl refl refl refl refl refl refl refl refl refl refl
 
 -- the numbers are 1 to 16
 pub number-range : (k : Kind) → (1 ≤ numberOf k) × (numberOf k ≤ 16)

@@ -1,15 +1,15 @@
 -- Laws of values, a token at a time. Assumes nothing.
 use mathlib.Core.Path.{_≡_, refl, ap, sym, subst, _∙_}
+use mathlib.Core.Bool.{Bool, true, false}
 use mathlib.Core.List.{List, _∷_}
 use Prim.Native.Nat.{ℕ, _≤_}
 use native.Mathlib.Omega.{arith}
+use Rattle.token.specs.KindLaws.{every-kind}
 use Rattle.token.specs.Tokens.{Tok, tok, allTokens, tokensAt, Took}
 use Rattle.token.specs.declared.kind.Kind.{Kind}
-use Rattle.token.specs.declared.kind.Kind.the-variants.{Dot, Equals, Comma, LeftSquareBracket, RightSquareBracket, LeftCurlyBracket, RightCurlyBracket, Whitespace, Comment, Newline, LiteralString, BasicString, MlLiteralString, MlBasicString, Atom, Eof}
 use Rattle.token.specs.declared.cursor.Token.{Token}
 use Rattle.token.specs.declared.cursor.Cursor.{Cursor}
 use Rattle.rules.specs.declared.value.InValue.{InValue}
-use Rattle.rules.specs.declared.scalar.Starting.{Starting}
 use Rattle.rules.specs.Out.{Out, done}
 use Rattle.rules.specs.Scalar.{startingOf}
 use Rattle.rules.specs.Value.{inValue, value, valueStep}
@@ -17,6 +17,7 @@ use Rattle.output.specs.Pour.{Bufs, pour}
 use Rattle.output.specs.Walks.{End, run}
 use Rattle.output.specs.WalkLaws.{Looped, rule-at, by-rule}
 use Rattle.scalars.specs.ScalarWalks.{Starts}
+use Rattle.scalars.specs.StartLaws.{ScalarsStart, class-starts}
 use Rattle.nest.specs.declared.nest.NestWalk.{NestWalk}
 use Rattle.nest.specs.Nested.{outOf, Nested}
 
@@ -31,35 +32,17 @@ module _ (s : List ℕ) (c d : Cursor) (t : Token) (k : Took s c t d) (x y : InV
   value-at all o levels = by-rule all o _ _ (value-is levels)
 
 -- a kind that is taken for a scalar starts one
-abbrev ScalarStarts : InValue → Starting → Type 0
-ScalarStarts InValue.Nothing x = Unit {0}
-ScalarStarts InValue.Equals x = Unit {0}
-ScalarStarts InValue.OpenCurly x = Unit {0}
-ScalarStarts InValue.CloseCurly x = Unit {0}
-ScalarStarts InValue.OpenSquare x = Unit {0}
-ScalarStarts InValue.CloseSquare x = Unit {0}
-ScalarStarts InValue.Scalar x = Starts x
-
-scalar-starts : (k : Kind) → ScalarStarts (inValue k) (startingOf k)
-scalar-starts Dot = tt
-scalar-starts Equals = tt
-scalar-starts Comma = tt
-scalar-starts LeftSquareBracket = tt
-scalar-starts RightSquareBracket = tt
-scalar-starts LeftCurlyBracket = tt
-scalar-starts RightCurlyBracket = tt
-scalar-starts Whitespace = tt
-scalar-starts Comment = tt
-scalar-starts Newline = tt
-scalar-starts LiteralString = tt
-scalar-starts BasicString = tt
-scalar-starts MlLiteralString = tt
-scalar-starts MlBasicString = tt
-scalar-starts Atom = tt
-scalar-starts Eof = tt
+abbrev isScalar : InValue → Bool
+isScalar InValue.Nothing = false
+isScalar InValue.Equals = false
+isScalar InValue.OpenCurly = false
+isScalar InValue.CloseCurly = false
+isScalar InValue.OpenSquare = false
+isScalar InValue.CloseSquare = false
+isScalar InValue.Scalar = true
 
 pub value-starts : (k : Kind) (x : InValue) → x ≡ inValue k → x ≡ InValue.Scalar → Starts (startingOf k)
-value-starts k x p q = subst (λ (z : InValue). ScalarStarts z (startingOf k)) (sym p ∙ q) (scalar-starts k)
+value-starts = class-starts inValue isScalar InValue.Scalar refl (every-kind (ScalarsStart inValue isScalar) tt tt tt tt tt tt tt tt tt tt tt tt tt tt tt tt)
 
 -- the end of a loop by a walk that may be refused
 pub finish-nested : {s : List ℕ} {now start : Out} {o o₀ : Bufs} {cur cur₀ : Cursor} (inv : Looped s now start o o₀ cur cur₀) {r : Out} {o' : Bufs} {cur' : Cursor} {a b : List ℕ} {v : NestWalk}

@@ -1,4 +1,5 @@
 // Values.
+use array_parts::brackets::without_open;
 use key_dots::dots::nothing_left;
 use nest::nest::NestWalk;
 use nest::nest::on_array_open;
@@ -8,18 +9,14 @@ use output::emitting::Counts;
 use output::emitting::Walk;
 use output::emitting::emit;
 use output::emitting::report_at;
-use output::emitting::report_before;
 use output::expected::A_VALUE;
 use output::expected::NOTHING;
-use output::expected::OPEN_CURLY;
-use output::expected::OPEN_SQUARE;
 use output::message::EXTRA_EQUALS;
-use output::message::MISSING_ARRAY_OPENING;
-use output::message::MISSING_INLINE_TABLE_OPENING;
 use output::message::MISSING_VALUE;
 use rules::event::Encoding;
 use rules::event::Event;
 use rules::options::Settings;
+use rules::skipping::Bracket;
 use rules::value::InValue;
 use rules::value::in_value;
 use scalars::scalar::on_scalar;
@@ -67,18 +64,14 @@ pub fn value(
                 return on_inline_table_open(s, t, past, n, settings, events, errors);
             }
             InValue::CloseCurly => {
-                n = report_before(errors, n, MISSING_INLINE_TABLE_OPENING, OPEN_CURLY, t, t);
-                n = emit(events, n, Event::InlineTableOpen, t.start, t.start);
-                n = emit(events, n, Event::InlineTableClose, t.start, t.end);
+                n = without_open(n, Bracket::Curly, t, events, errors);
                 return unstopped(Walk { cur: past, n });
             }
             InValue::OpenSquare => {
                 return on_array_open(s, t, past, n, settings, events, errors);
             }
             InValue::CloseSquare => {
-                n = report_before(errors, n, MISSING_ARRAY_OPENING, OPEN_SQUARE, t, t);
-                n = emit(events, n, Event::ArrayOpen, t.start, t.start);
-                n = emit(events, n, Event::ArrayClose, t.start, t.end);
+                n = without_open(n, Bracket::Square, t, events, errors);
                 return unstopped(Walk { cur: past, n });
             }
             InValue::Scalar => {

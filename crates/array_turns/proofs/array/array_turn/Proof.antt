@@ -3,6 +3,8 @@
 use mathlib.Core.Path.{refl, _∙_}
 use native.Mathlib.Omega.{arith}
 use Rattle.rules.specs.Out.{span, done, _▸_}
+use Rattle.rules.specs.declared.skipping.Bracket.{Bracket}
+use Rattle.rules.specs.WithoutOpen.{withoutOpen}
 use Rattle.rules.specs.Array.{arrayTurn, missingComma}
 use Rattle.output.specs.Pour.{bufs}
 use Rattle.rules.specs.Messages as message
@@ -122,14 +124,8 @@ enum-told-9 c = search needs
 missing-comma-requires-2 : tie.Need-missing-comma-requires-2
 missing-comma-requires-2 c κs = search needs
 
-report-before-requires : tie.Need-report-before-requires
-report-before-requires c κs = search needs
-
-emit-requires-5 : tie.Need-emit-requires-5
-emit-requires-5 c κs = search needs
-
-emit-requires-6 : tie.Need-emit-requires-6
-emit-requires-6 c κs = search needs
+without-open-requires : tie.Need-without-open-requires
+without-open-requires c κs = search needs
 
 again-requires-6 : tie.Need-again-requires-6
 again-requires-6 c κs = search needs
@@ -146,8 +142,8 @@ opening-requires-2 c κs = search needs
 enum-told-11 : tie.Need-enum-told-11
 enum-told-11 c = search needs
 
-emit-requires-7 : tie.Need-emit-requires-7
-emit-requires-7 c κs = search needs
+emit-requires-5 : tie.Need-emit-requires-5
+emit-requires-5 c κs = search needs
 
 over-requires-3 : tie.Need-over-requires-3
 over-requires-3 c κs = search needs
@@ -228,13 +224,13 @@ returns-8 : tie.Need-returns-8
 returns-8 c = array-as ((c .opening) .ensures) (record { is = λ base q nest loop. array-at _ _ _ _ (told _ _ _ _ _ ((c .before .before .before .before .before .before .before .before .before .before .before .before .before .before .next) .ensures) ((c .before .before .before .before .before .before .before .before .before .before .before .before .step) .given .1)) _ _ ((c .before .before .before .before .before .before .before .before .before .before .in-array) .ensures) ((c .before .before .before .before .before .before .before .before .enum-told8) .given .1) _ _ (span ((c .before .before .before .before .before .before .before .before .before .before .before .before .before .before .before .before .before .before .args) .head .start) ((c .before .before .before .before .before .before .before .before .before .before .before .before .before .before .before .before .before .before .args) .head .end)) nest loop ((c .before .before .before .before .before .before .before .before .before .before .before .before .before .before .before .before .before .before .args) .state) ∙ (first-items _ (missingComma (span ((c .before .before .before .before .before .before .before .before .before .before .before .before .before .before .before .before .before .before .args) .head .start) ((c .before .before .before .before .before .before .before .before .before .before .before .before .before .before .before .before .before .before .args) .head .end)) ((c .before .before .before .before .before .before .before .before .before .before .before .before .before .before .before .before .before .before .args) .state) ((c .before .before .before .before .before .before .before .before .before .before .before .before .step) .given .0 .0 .start) ((c .before .before .before .before .before .before .before .before .before .before .before .before .step) .given .0 .0 .end)) _ (bufs ((c .before .before .before .before .before .before .before .before .before .before .before .before .before .before .before .before .before .before .args) .events .now) ((c .before .before .before .before .before .before .before .before .before .before .before .before .before .before .before .before .before .before .args) .errors .now) ((c .before .before .before .before .before .before .before .before .before .before .before .before .before .before .before .before .before .before .args) .m)) _ ((c .before .before .before .before .before .missing-comma) .ensures _)); good = (told _ _ _ _ _ ((c .before .before .before .before .before .before .before .before .before .before .before .before .before .before .next) .ensures) ((c .before .before .before .before .before .before .before .before .before .before .before .before .step) .given .1)) .good; on = omega (arith, (told _ _ _ _ _ ((c .before .before .before .before .before .before .before .before .before .before .before .before .before .before .next) .ensures) ((c .before .before .before .before .before .before .before .before .before .before .before .before .step) .given .1)) .on); base = (told _ _ _ _ _ ((c .before .before .before .before .before .before .before .before .before .before .before .before .before .before .next) .ensures) ((c .before .before .before .before .before .before .before .before .before .before .before .before .step) .given .1)) .base }) refl
 
 same-length-15 : tie.Need-same-length-15
-same-length-15 c = ((c .before .before .before .emit6 .kept .0) ∙ (c .before .before .before .before .before .before .before .emit5 .kept .0) ∙ (c .before .before .before .before .before .before .before .before .before .before .before .before .before .before .before .before .before .missing-comma2 .kept .1 .1 .1 .1 .0))
+same-length-15 c = ((c .before .before .before .before .before .without-open .kept .1 .1 .1 .0) ∙ (c .before .before .before .before .before .before .before .before .before .before .before .before .missing-comma2 .kept .1 .1 .1 .1 .0))
 
 same-length-16 : tie.Need-same-length-16
 same-length-16 c = search needs
 
 returns-9 : tie.Need-returns-9
-returns-9 c = array-as ((c .again6) .ensures) (record { is = λ base q nest loop. array-at _ _ _ _ (told _ _ _ _ _ ((c .before .before .before .before .before .before .before .before .before .before .before .before .before .before .before .before .before .before .before .before .before .before .before .before .before .before .next) .ensures) ((c .before .before .before .before .before .before .before .before .before .before .before .before .before .before .before .before .before .before .before .before .before .before .before .before .step) .given .1)) _ _ ((c .before .before .before .before .before .before .before .before .before .before .before .before .before .before .before .before .before .before .before .before .before .before .in-array) .ensures) ((c .before .before .before .before .before .before .before .before .before .before .before .before .before .before .before .before .before .before .before .before .enum-told9) .given .1) _ _ (span ((c .before .before .before .before .before .before .before .before .before .before .before .before .before .before .before .before .before .before .before .before .before .before .before .before .before .before .before .before .before .before .args) .head .start) ((c .before .before .before .before .before .before .before .before .before .before .before .before .before .before .before .before .before .before .before .before .before .before .before .before .before .before .before .before .before .before .args) .head .end)) nest loop ((c .before .before .before .before .before .before .before .before .before .before .before .before .before .before .before .before .before .before .before .before .before .before .before .before .before .before .before .before .before .before .args) .state) ∙ (first-items _ (missingComma (span ((c .before .before .before .before .before .before .before .before .before .before .before .before .before .before .before .before .before .before .before .before .before .before .before .before .before .before .before .before .before .before .args) .head .start) ((c .before .before .before .before .before .before .before .before .before .before .before .before .before .before .before .before .before .before .before .before .before .before .before .before .before .before .before .before .before .before .args) .head .end)) ((c .before .before .before .before .before .before .before .before .before .before .before .before .before .before .before .before .before .before .before .before .before .before .before .before .before .before .before .before .before .before .args) .state) ((c .before .before .before .before .before .before .before .before .before .before .before .before .before .before .before .before .before .before .before .before .before .before .before .before .step) .given .0 .0 .start) ((c .before .before .before .before .before .before .before .before .before .before .before .before .before .before .before .before .before .before .before .before .before .before .before .before .step) .given .0 .0 .end)) _ (bufs ((c .before .before .before .before .before .before .before .before .before .before .before .before .before .before .before .before .before .before .before .before .before .before .before .before .before .before .before .before .before .before .args) .events .now) ((c .before .before .before .before .before .before .before .before .before .before .before .before .before .before .before .before .before .before .before .before .before .before .before .before .before .before .before .before .before .before .args) .errors .now) ((c .before .before .before .before .before .before .before .before .before .before .before .before .before .before .before .before .before .before .before .before .before .before .before .before .before .before .before .before .before .before .args) .m)) _ ((c .before .before .before .before .before .before .before .before .before .before .before .before .before .before .before .before .before .missing-comma2) .ensures _)) ∙ ((first-item _ _ _ _ _ (c .before .before .before .before .before .before .before .before .before .before .before .report-before .ensures _ _)) ∙ (first-item _ _ _ _ _ (c .before .before .before .before .before .before .before .emit5 .ensures _ _)) ∙ (first-item _ _ _ _ _ (c .before .before .before .emit6 .ensures _ _))); good = (told _ _ _ _ _ ((c .before .before .before .before .before .before .before .before .before .before .before .before .before .before .before .before .before .before .before .before .before .before .before .before .before .before .next) .ensures) ((c .before .before .before .before .before .before .before .before .before .before .before .before .before .before .before .before .before .before .before .before .before .before .before .before .step) .given .1)) .good; on = omega (arith, (told _ _ _ _ _ ((c .before .before .before .before .before .before .before .before .before .before .before .before .before .before .before .before .before .before .before .before .before .before .before .before .before .before .next) .ensures) ((c .before .before .before .before .before .before .before .before .before .before .before .before .before .before .before .before .before .before .before .before .before .before .before .before .step) .given .1)) .on); base = (told _ _ _ _ _ ((c .before .before .before .before .before .before .before .before .before .before .before .before .before .before .before .before .before .before .before .before .before .before .before .before .before .before .next) .ensures) ((c .before .before .before .before .before .before .before .before .before .before .before .before .before .before .before .before .before .before .before .before .before .before .before .before .step) .given .1)) .base }) tt
+returns-9 c = array-as ((c .again6) .ensures) (record { is = λ base q nest loop. array-at _ _ _ _ (told _ _ _ _ _ ((c .before .before .before .before .before .before .before .before .before .before .before .before .before .before .before .before .before .before .before .before .before .next) .ensures) ((c .before .before .before .before .before .before .before .before .before .before .before .before .before .before .before .before .before .before .before .step) .given .1)) _ _ ((c .before .before .before .before .before .before .before .before .before .before .before .before .before .before .before .before .before .in-array) .ensures) ((c .before .before .before .before .before .before .before .before .before .before .before .before .before .before .before .enum-told9) .given .1) _ _ (span ((c .before .before .before .before .before .before .before .before .before .before .before .before .before .before .before .before .before .before .before .before .before .before .before .before .before .args) .head .start) ((c .before .before .before .before .before .before .before .before .before .before .before .before .before .before .before .before .before .before .before .before .before .before .before .before .before .args) .head .end)) nest loop ((c .before .before .before .before .before .before .before .before .before .before .before .before .before .before .before .before .before .before .before .before .before .before .before .before .before .args) .state) ∙ (first-items _ (missingComma (span ((c .before .before .before .before .before .before .before .before .before .before .before .before .before .before .before .before .before .before .before .before .before .before .before .before .before .args) .head .start) ((c .before .before .before .before .before .before .before .before .before .before .before .before .before .before .before .before .before .before .before .before .before .before .before .before .before .args) .head .end)) ((c .before .before .before .before .before .before .before .before .before .before .before .before .before .before .before .before .before .before .before .before .before .before .before .before .before .args) .state) ((c .before .before .before .before .before .before .before .before .before .before .before .before .before .before .before .before .before .before .before .step) .given .0 .0 .start) ((c .before .before .before .before .before .before .before .before .before .before .before .before .before .before .before .before .before .before .before .step) .given .0 .0 .end)) _ (bufs ((c .before .before .before .before .before .before .before .before .before .before .before .before .before .before .before .before .before .before .before .before .before .before .before .before .before .args) .events .now) ((c .before .before .before .before .before .before .before .before .before .before .before .before .before .before .before .before .before .before .before .before .before .before .before .before .before .args) .errors .now) ((c .before .before .before .before .before .before .before .before .before .before .before .before .before .before .before .before .before .before .before .before .before .before .before .before .before .args) .m)) _ ((c .before .before .before .before .before .before .before .before .before .before .before .before .missing-comma2) .ensures _)) ∙ first-items _ (withoutOpen Bracket.Curly ((c .before .before .before .before .before .before .before .before .before .before .before .before .before .before .before .before .before .before .before .step) .given .0 .0 .start) ((c .before .before .before .before .before .before .before .before .before .before .before .before .before .before .before .before .before .before .before .step) .given .0 .0 .end)) _ _ _ ((c .before .before .before .before .before .without-open) .ensures _); good = (told _ _ _ _ _ ((c .before .before .before .before .before .before .before .before .before .before .before .before .before .before .before .before .before .before .before .before .before .next) .ensures) ((c .before .before .before .before .before .before .before .before .before .before .before .before .before .before .before .before .before .before .before .step) .given .1)) .good; on = omega (arith, (told _ _ _ _ _ ((c .before .before .before .before .before .before .before .before .before .before .before .before .before .before .before .before .before .before .before .before .before .next) .ensures) ((c .before .before .before .before .before .before .before .before .before .before .before .before .before .before .before .before .before .before .before .step) .given .1)) .on); base = (told _ _ _ _ _ ((c .before .before .before .before .before .before .before .before .before .before .before .before .before .before .before .before .before .before .before .before .before .next) .ensures) ((c .before .before .before .before .before .before .before .before .before .before .before .before .before .before .before .before .before .before .before .step) .given .1)) .base }) tt
 
 same-length-17 : tie.Need-same-length-17
 same-length-17 c = search needs
@@ -249,7 +245,7 @@ same-length-19 : tie.Need-same-length-19
 same-length-19 c = search needs
 
 returns-11 : tie.Need-returns-11
-returns-11 c = array-as ((c .over3) .ensures) (record { is = λ base q nest loop. array-at _ _ _ _ (told _ _ _ _ _ ((c .before .before .before .before .before .before .before .before .before .before .before .next) .ensures) ((c .before .before .before .before .before .before .before .before .before .step) .given .1)) _ _ ((c .before .before .before .before .before .before .before .in-array) .ensures) ((c .before .before .before .before .before .enum-told11) .given .1) _ _ (span ((c .before .before .before .before .before .before .before .before .before .before .before .before .before .before .before .args) .head .start) ((c .before .before .before .before .before .before .before .before .before .before .before .before .before .before .before .args) .head .end)) nest loop ((c .before .before .before .before .before .before .before .before .before .before .before .before .before .before .before .args) .state) ∙ ((first-item _ _ _ _ _ (c .before .before .before .emit7 .ensures _ _))); good = (told _ _ _ _ _ ((c .before .before .before .before .before .before .before .before .before .before .before .next) .ensures) ((c .before .before .before .before .before .before .before .before .before .step) .given .1)) .good; on = omega (arith, (told _ _ _ _ _ ((c .before .before .before .before .before .before .before .before .before .before .before .next) .ensures) ((c .before .before .before .before .before .before .before .before .before .step) .given .1)) .on); base = (told _ _ _ _ _ ((c .before .before .before .before .before .before .before .before .before .before .before .next) .ensures) ((c .before .before .before .before .before .before .before .before .before .step) .given .1)) .base }) tt
+returns-11 c = array-as ((c .over3) .ensures) (record { is = λ base q nest loop. array-at _ _ _ _ (told _ _ _ _ _ ((c .before .before .before .before .before .before .before .before .before .before .before .next) .ensures) ((c .before .before .before .before .before .before .before .before .before .step) .given .1)) _ _ ((c .before .before .before .before .before .before .before .in-array) .ensures) ((c .before .before .before .before .before .enum-told11) .given .1) _ _ (span ((c .before .before .before .before .before .before .before .before .before .before .before .before .before .before .before .args) .head .start) ((c .before .before .before .before .before .before .before .before .before .before .before .before .before .before .before .args) .head .end)) nest loop ((c .before .before .before .before .before .before .before .before .before .before .before .before .before .before .before .args) .state) ∙ ((first-item _ _ _ _ _ (c .before .before .before .emit5 .ensures _ _))); good = (told _ _ _ _ _ ((c .before .before .before .before .before .before .before .before .before .before .before .next) .ensures) ((c .before .before .before .before .before .before .before .before .before .step) .given .1)) .good; on = omega (arith, (told _ _ _ _ _ ((c .before .before .before .before .before .before .before .before .before .before .before .next) .ensures) ((c .before .before .before .before .before .before .before .before .before .step) .given .1)) .on); base = (told _ _ _ _ _ ((c .before .before .before .before .before .before .before .before .before .before .before .next) .ensures) ((c .before .before .before .before .before .before .before .before .before .step) .given .1)) .base }) tt
 
 same-length-20 : tie.Need-same-length-20
 same-length-20 c = search needs
@@ -304,15 +300,13 @@ array-turn-spec =
     opening-requires
     enum-told-9
     missing-comma-requires-2
-    report-before-requires
-    emit-requires-5
-    emit-requires-6
+    without-open-requires
     again-requires-6
     enum-told-10
     missing-comma-requires-3
     opening-requires-2
     enum-told-11
-    emit-requires-7
+    emit-requires-5
     over-requires-3
     enum-told-12
     missing-comma-requires-4

@@ -2,7 +2,8 @@
 -- Made by ./proofs from Proof.tmpl: change that.
 use mathlib.Core.Path.{sym, _∙_}
 use native.Mathlib.Omega.{arith}
-use Rattle.inline_parts.proofs.ActionLaws.{actionFrom, table-entry, rest-action, row-small, kind-small}
+use Rattle.token.specs.KindLaws.{number-range}
+use Rattle.inline_parts.proofs.ActionLaws.{actionFrom, table-entry, rest-action, row-small}
 use borrow.Author.Needs.{needs}
 use Rattle.inline_parts.proofs.actions.action_at.Statement.{statement}
 use Rattle.inline_parts.proofs.actions.action_at.Tie as tie
@@ -14,16 +15,16 @@ number-of-requires : tie.Need-number-of-requires
 number-of-requires c κs = search needs
 
 sub-j : tie.Need-sub-j
-sub-j c = (omega (arith, (c .before .row-of) .ensures, (c .number-of) .ensures, row-small ((c .before .before .args) .state), kind-small ((c .before .before .args) .kind)))
+sub-j c = (omega (arith, (c .before .row-of) .ensures, (c .number-of) .ensures, row-small ((c .before .before .args) .state), number-range ((c .before .before .args) .kind)))
 
 mul-a : tie.Need-mul-a
-mul-a c = record { fits = (omega (arith, (c .before .row-of) .ensures, (c .number-of) .ensures, row-small ((c .before .before .args) .state), kind-small ((c .before .before .args) .kind))) }
+mul-a c = record { fits = (omega (arith, (c .before .row-of) .ensures, (c .number-of) .ensures, row-small ((c .before .before .args) .state), number-range ((c .before .before .args) .kind))) }
 
 index-1-a : tie.Need-index-1-a
-index-1-a c = (omega (arith, (c .before .row-of) .ensures, (c .number-of) .ensures, row-small ((c .before .before .args) .state), kind-small ((c .before .before .args) .kind)))
+index-1-a c = (omega (arith, (c .before .row-of) .ensures, (c .number-of) .ensures, row-small ((c .before .before .args) .state), number-range ((c .before .before .args) .kind)))
 
 index-2-a : tie.Need-index-2-a
-index-2-a c = (omega (arith, (c .before .row-of) .ensures, (c .number-of) .ensures, row-small ((c .before .before .args) .state), kind-small ((c .before .before .args) .kind)))
+index-2-a c = (omega (arith, (c .before .row-of) .ensures, (c .number-of) .ensures, row-small ((c .before .before .args) .state), number-range ((c .before .before .args) .kind)))
 
 returns : tie.Need-returns
 unfolding actionFrom

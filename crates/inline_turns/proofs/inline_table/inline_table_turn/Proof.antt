@@ -8,9 +8,11 @@ use lib.ListN.{length}
 use Rattle.token.specs.Records.{count}
 use Rattle.token.specs.Tokens.{tokensAt}
 use Rattle.rules.specs.declared.inline_table.State.{State}
+use Rattle.rules.specs.declared.skipping.Bracket.{Bracket}
 use Rattle.rules.specs.Out.{span, done, _▸_}
 use Rattle.rules.specs.Messages as message
 use Rattle.rules.specs.Expected as expected
+use Rattle.rules.specs.WithoutOpen.{withoutOpen}
 use Rattle.rules.specs.InlineTable.{progress, refused, trailing, inlineTableTurn}
 use Rattle.output.specs.Pour.{bufs}
 use Rattle.output.specs.WalkLaws.{told, told-done, at-end, first-item, first-items, then-goes}
@@ -245,14 +247,8 @@ again-requires-9 c κs = search needs
 enum-told-21 : tie.Need-enum-told-21
 enum-told-21 c = search needs
 
-report-before-requires : tie.Need-report-before-requires
-report-before-requires c κs = search needs
-
-emit-requires-8 : tie.Need-emit-requires-8
-emit-requires-8 c κs = search needs
-
-emit-requires-9 : tie.Need-emit-requires-9
-emit-requires-9 c κs = search needs
+without-open-requires : tie.Need-without-open-requires
+without-open-requires c κs = search needs
 
 read-requires-5 : tie.Need-read-requires-5
 read-requires-5 c κs = search needs
@@ -483,7 +479,7 @@ same-length-32 : tie.Need-same-length-32
 same-length-32 c = search needs
 
 returns-21 : tie.Need-returns-21
-returns-21 c = table-as ((c .read5) .ensures) (record { is = λ base q nest loop. (table-at _ _ _ _ (told _ _ _ _ _ ((c .before .before .before .before .before .before .before .before .before .before .before .before .before .before .before .before .before .before .before .next) .ensures) ((c .before .before .before .before .before .before .before .before .before .before .before .before .before .before .before .before .before .step) .given .1)) _ _ ((c .before .before .before .before .before .before .before .before .before .before .before .before .before .before .before .before .before .before .before .before .before .before .before .args) .p) ((c .before .before .before .before .before .before .before .before .before .before .before .before .before .before .before .action-at) .ensures) ((c .before .before .before .before .before .before .before .before .before .before .before .before .before .enum-told21) .given .1) _ _ (span ((c .before .before .before .before .before .before .before .before .before .before .before .before .before .before .before .before .before .before .before .before .before .before .before .args) .head .start) ((c .before .before .before .before .before .before .before .before .before .before .before .before .before .before .before .before .before .before .before .before .before .before .before .args) .head .end)) (count ((c .before .before .before .before .before .before .before .before .before .before .before .before .before .before .before .before .before .before .before .before .before .before .before .args) .s .now) - (c .before .before .before .before .before .before .before .before .before .before .before .before .before .before .before .before .before .before .before .before .before .before .before .args) .opened) nest loop) ∙ ((first-item _ _ _ _ _ (c .before .before .before .before .before .before .before .before .before .before .before .report-before .ensures _ _)) ∙ (first-item _ _ _ _ _ (c .before .before .before .before .before .before .before .emit8 .ensures _ _)) ∙ (first-item _ _ _ _ _ (c .before .before .before .emit9 .ensures _ _))); good = (told _ _ _ _ _ ((c .before .before .before .before .before .before .before .before .before .before .before .before .before .before .before .before .before .before .before .next) .ensures) ((c .before .before .before .before .before .before .before .before .before .before .before .before .before .before .before .before .before .step) .given .1)) .good; on = omega (arith, (told _ _ _ _ _ ((c .before .before .before .before .before .before .before .before .before .before .before .before .before .before .before .before .before .before .before .next) .ensures) ((c .before .before .before .before .before .before .before .before .before .before .before .before .before .before .before .before .before .step) .given .1)) .on); base = (told _ _ _ _ _ ((c .before .before .before .before .before .before .before .before .before .before .before .before .before .before .before .before .before .before .before .next) .ensures) ((c .before .before .before .before .before .before .before .before .before .before .before .before .before .before .before .before .before .step) .given .1)) .base })
+returns-21 c = table-as ((c .read5) .ensures) (record { is = λ base q nest loop. (table-at _ _ _ _ (told _ _ _ _ _ ((c .before .before .before .before .before .before .before .before .before .before .before .before .before .before .next) .ensures) ((c .before .before .before .before .before .before .before .before .before .before .before .before .step) .given .1)) _ _ ((c .before .before .before .before .before .before .before .before .before .before .before .before .before .before .before .before .before .before .args) .p) ((c .before .before .before .before .before .before .before .before .before .before .action-at) .ensures) ((c .before .before .before .before .before .before .before .before .enum-told21) .given .1) _ _ (span ((c .before .before .before .before .before .before .before .before .before .before .before .before .before .before .before .before .before .before .args) .head .start) ((c .before .before .before .before .before .before .before .before .before .before .before .before .before .before .before .before .before .before .args) .head .end)) (count ((c .before .before .before .before .before .before .before .before .before .before .before .before .before .before .before .before .before .before .args) .s .now) - (c .before .before .before .before .before .before .before .before .before .before .before .before .before .before .before .before .before .before .args) .opened) nest loop) ∙ first-items _ (withoutOpen Bracket.Square ((c .before .before .before .before .before .before .before .before .before .before .before .before .step) .given .0 .0 .start) ((c .before .before .before .before .before .before .before .before .before .before .before .before .step) .given .0 .0 .end)) _ (bufs ((c .before .before .before .before .before .before .before .before .before .before .before .before .before .before .before .before .before .before .args) .events .now) ((c .before .before .before .before .before .before .before .before .before .before .before .before .before .before .before .before .before .before .args) .errors .now) ((c .before .before .before .before .before .before .before .before .before .before .before .before .before .before .before .before .before .before .args) .m)) _ ((c .before .before .before .before .before .without-open) .ensures _); good = (told _ _ _ _ _ ((c .before .before .before .before .before .before .before .before .before .before .before .before .before .before .next) .ensures) ((c .before .before .before .before .before .before .before .before .before .before .before .before .step) .given .1)) .good; on = omega (arith, (told _ _ _ _ _ ((c .before .before .before .before .before .before .before .before .before .before .before .before .before .before .next) .ensures) ((c .before .before .before .before .before .before .before .before .before .before .before .before .step) .given .1)) .on); base = (told _ _ _ _ _ ((c .before .before .before .before .before .before .before .before .before .before .before .before .before .before .next) .ensures) ((c .before .before .before .before .before .before .before .before .before .before .before .before .step) .given .1)) .base })
 
 same-length-33 : tie.Need-same-length-33
 same-length-33 c = search needs
@@ -622,9 +618,7 @@ inline-table-turn-spec =
     refuse-requires-5
     again-requires-9
     enum-told-21
-    report-before-requires
-    emit-requires-8
-    emit-requires-9
+    without-open-requires
     read-requires-5
     enum-told-22
     table-key-requires

@@ -7,10 +7,12 @@ use lib.ListN.{length}
 use Rattle.token.specs.Records.{count}
 use Rattle.token.specs.Tokens.{tokensAt}
 use Rattle.output.specs.Pour.{bufs}
-use Rattle.output.specs.WalkLaws.{Looped, begun, again, finish, finish-by, first-item, run-done, told, told-done}
+use Rattle.output.specs.WalkLaws.{Looped, begun, again, finish, finish-by, first-item, first-items, run-done, told, told-done}
 use Rattle.rules.specs.Out.{done, _▹_}
 use Rattle.rules.specs.Messages as message
 use Rattle.rules.specs.Expected as expected
+use Rattle.rules.specs.declared.skipping.Bracket.{Bracket}
+use Rattle.rules.specs.WithoutOpen.{withoutOpen}
 use Rattle.rules.specs.Value.{value}
 use Rattle.key_dots.specs.KeyWalks.{nothingLeft}
 use Rattle.output.specs.WalkLaws.{at-end}
@@ -117,26 +119,20 @@ returns-3 c = finish-nested ((c .before .before .before .before .before .before 
 enum-told-5 : tie.Need-enum-told-5 Inv-loop μ-loop
 enum-told-5 c = search needs
 
-report-before-requires : tie.Need-report-before-requires Inv-loop μ-loop
-report-before-requires c κs = search needs
-
-emit-requires-3 : tie.Need-emit-requires-3 Inv-loop μ-loop
-emit-requires-3 c κs = search needs
-
-emit-requires-4 : tie.Need-emit-requires-4 Inv-loop μ-loop
-emit-requires-4 c κs = search needs
+without-open-requires : tie.Need-without-open-requires Inv-loop μ-loop
+without-open-requires c κs = search needs
 
 unstopped-requires-3 : tie.Need-unstopped-requires-3 Inv-loop μ-loop
 unstopped-requires-3 c κs = search needs
 
 same-length-7 : tie.Need-same-length-7 Inv-loop μ-loop
-same-length-7 c = ((c .before .before .before .emit4 .kept .0) ∙ (c .before .before .before .before .before .before .before .emit3 .kept .0)) ∙ (c .before .before .before .before .before .before .before .before .before .before .before .before .before .before .before .before .before .before .before .before .loop) .inv .1
+same-length-7 c = ((c .before .before .before .before .before .without-open .kept .1 .1 .1 .0)) ∙ (c .before .before .before .before .before .before .before .before .before .before .before .before .before .before .before .loop) .inv .1
 
 same-length-8 : tie.Need-same-length-8 Inv-loop μ-loop
-same-length-8 c = ((c .before .before .before .before .before .before .before .before .before .before .before .report-before .kept .0)) ∙ (c .before .before .before .before .before .before .before .before .before .before .before .before .before .before .before .before .before .before .before .before .loop) .inv .2
+same-length-8 c = ((c .before .before .before .before .before .without-open .kept .1 .1 .1 .1 .0)) ∙ (c .before .before .before .before .before .before .before .before .before .before .before .before .before .before .before .loop) .inv .2
 
 returns-4 : tie.Need-returns-4 Inv-loop μ-loop
-returns-4 c = nested-same ((c .unstopped3) .ensures) (nested-goes (finish ((c .before .before .before .before .before .before .before .before .before .before .before .before .before .before .before .before .before .before .before .before .loop) .inv .0) _ _ _ ((value-at _ _ _ _ (told _ _ _ _ _ ((c .before .before .before .before .before .before .before .before .before .before .before .before .before .before .before .before .before .before .before .next) .ensures) ((c .before .before .before .before .before .before .before .before .before .before .before .before .before .before .before .before .before .step) .given .1)) _ _ ((c .before .before .before .before .before .before .before .before .before .before .before .before .before .before .before .in-value) .ensures) ((c .before .before .before .before .before .before .before .before .before .before .before .before .before .enum-told5) .given .1) _ _ ((c .before .before .before .before .before .before .before .before .before .before .before .before .before .before .before .before .before .before .before .before .before .before .before .before .args) .settings .levels)) ∙ ((first-item _ _ _ _ _ (c .before .before .before .before .before .before .before .before .before .before .before .report-before .ensures _ _)) ∙ (first-item _ _ _ _ _ (c .before .before .before .before .before .before .before .emit3 .ensures _ _)) ∙ (first-item _ _ _ _ _ (c .before .before .before .emit4 .ensures _ _))) ∙ run-done _ _ _ _ _ _) (omega (arith, (told _ _ _ _ _ ((c .before .before .before .before .before .before .before .before .before .before .before .before .before .before .before .before .before .before .before .next) .ensures) ((c .before .before .before .before .before .before .before .before .before .before .before .before .before .before .before .before .before .step) .given .1)) .on)) ((told _ _ _ _ _ ((c .before .before .before .before .before .before .before .before .before .before .before .before .before .before .before .before .before .before .before .next) .ensures) ((c .before .before .before .before .before .before .before .before .before .before .before .before .before .before .before .before .before .step) .given .1)) .base) ((told _ _ _ _ _ ((c .before .before .before .before .before .before .before .before .before .before .before .before .before .before .before .before .before .before .before .next) .ensures) ((c .before .before .before .before .before .before .before .before .before .before .before .before .before .before .before .before .before .step) .given .1)) .good)))
+returns-4 c = nested-same ((c .unstopped3) .ensures) (nested-goes (finish ((c .before .before .before .before .before .before .before .before .before .before .before .before .before .before .before .loop) .inv .0) _ _ _ ((value-at _ _ _ _ (told _ _ _ _ _ ((c .before .before .before .before .before .before .before .before .before .before .before .before .before .before .next) .ensures) ((c .before .before .before .before .before .before .before .before .before .before .before .before .step) .given .1)) _ _ ((c .before .before .before .before .before .before .before .before .before .before .in-value) .ensures) ((c .before .before .before .before .before .before .before .before .enum-told5) .given .1) _ _ ((c .before .before .before .before .before .before .before .before .before .before .before .before .before .before .before .before .before .before .before .args) .settings .levels)) ∙ first-items _ (withoutOpen Bracket.Curly ((c .before .before .before .before .before .before .before .before .before .before .before .before .step) .given .0 .0 .start) ((c .before .before .before .before .before .before .before .before .before .before .before .before .step) .given .0 .0 .end)) _ _ _ ((c .before .before .before .before .before .without-open) .ensures _) ∙ run-done _ _ _ _ _ _) (omega (arith, (told _ _ _ _ _ ((c .before .before .before .before .before .before .before .before .before .before .before .before .before .before .next) .ensures) ((c .before .before .before .before .before .before .before .before .before .before .before .before .step) .given .1)) .on)) ((told _ _ _ _ _ ((c .before .before .before .before .before .before .before .before .before .before .before .before .before .before .next) .ensures) ((c .before .before .before .before .before .before .before .before .before .before .before .before .step) .given .1)) .base) ((told _ _ _ _ _ ((c .before .before .before .before .before .before .before .before .before .before .before .before .before .before .next) .ensures) ((c .before .before .before .before .before .before .before .before .before .before .before .before .step) .given .1)) .good)))
 
 enum-told-6 : tie.Need-enum-told-6 Inv-loop μ-loop
 enum-told-6 c = search needs
@@ -156,26 +152,20 @@ returns-5 c = finish-nested ((c .before .before .before .before .before .before 
 enum-told-7 : tie.Need-enum-told-7 Inv-loop μ-loop
 enum-told-7 c = search needs
 
-report-before-requires-2 : tie.Need-report-before-requires-2 Inv-loop μ-loop
-report-before-requires-2 c κs = search needs
-
-emit-requires-5 : tie.Need-emit-requires-5 Inv-loop μ-loop
-emit-requires-5 c κs = search needs
-
-emit-requires-6 : tie.Need-emit-requires-6 Inv-loop μ-loop
-emit-requires-6 c κs = search needs
+without-open-requires-2 : tie.Need-without-open-requires-2 Inv-loop μ-loop
+without-open-requires-2 c κs = search needs
 
 unstopped-requires-4 : tie.Need-unstopped-requires-4 Inv-loop μ-loop
 unstopped-requires-4 c κs = search needs
 
 same-length-11 : tie.Need-same-length-11 Inv-loop μ-loop
-same-length-11 c = ((c .before .before .before .emit6 .kept .0) ∙ (c .before .before .before .before .before .before .before .emit5 .kept .0)) ∙ (c .before .before .before .before .before .before .before .before .before .before .before .before .before .before .before .before .before .before .before .before .loop) .inv .1
+same-length-11 c = ((c .before .before .before .before .before .without-open2 .kept .1 .1 .1 .0)) ∙ (c .before .before .before .before .before .before .before .before .before .before .before .before .before .before .before .loop) .inv .1
 
 same-length-12 : tie.Need-same-length-12 Inv-loop μ-loop
-same-length-12 c = ((c .before .before .before .before .before .before .before .before .before .before .before .report-before2 .kept .0)) ∙ (c .before .before .before .before .before .before .before .before .before .before .before .before .before .before .before .before .before .before .before .before .loop) .inv .2
+same-length-12 c = ((c .before .before .before .before .before .without-open2 .kept .1 .1 .1 .1 .0)) ∙ (c .before .before .before .before .before .before .before .before .before .before .before .before .before .before .before .loop) .inv .2
 
 returns-6 : tie.Need-returns-6 Inv-loop μ-loop
-returns-6 c = nested-same ((c .unstopped4) .ensures) (nested-goes (finish ((c .before .before .before .before .before .before .before .before .before .before .before .before .before .before .before .before .before .before .before .before .loop) .inv .0) _ _ _ ((value-at _ _ _ _ (told _ _ _ _ _ ((c .before .before .before .before .before .before .before .before .before .before .before .before .before .before .before .before .before .before .before .next) .ensures) ((c .before .before .before .before .before .before .before .before .before .before .before .before .before .before .before .before .before .step) .given .1)) _ _ ((c .before .before .before .before .before .before .before .before .before .before .before .before .before .before .before .in-value) .ensures) ((c .before .before .before .before .before .before .before .before .before .before .before .before .before .enum-told7) .given .1) _ _ ((c .before .before .before .before .before .before .before .before .before .before .before .before .before .before .before .before .before .before .before .before .before .before .before .before .args) .settings .levels)) ∙ ((first-item _ _ _ _ _ (c .before .before .before .before .before .before .before .before .before .before .before .report-before2 .ensures _ _)) ∙ (first-item _ _ _ _ _ (c .before .before .before .before .before .before .before .emit5 .ensures _ _)) ∙ (first-item _ _ _ _ _ (c .before .before .before .emit6 .ensures _ _))) ∙ run-done _ _ _ _ _ _) (omega (arith, (told _ _ _ _ _ ((c .before .before .before .before .before .before .before .before .before .before .before .before .before .before .before .before .before .before .before .next) .ensures) ((c .before .before .before .before .before .before .before .before .before .before .before .before .before .before .before .before .before .step) .given .1)) .on)) ((told _ _ _ _ _ ((c .before .before .before .before .before .before .before .before .before .before .before .before .before .before .before .before .before .before .before .next) .ensures) ((c .before .before .before .before .before .before .before .before .before .before .before .before .before .before .before .before .before .step) .given .1)) .base) ((told _ _ _ _ _ ((c .before .before .before .before .before .before .before .before .before .before .before .before .before .before .before .before .before .before .before .next) .ensures) ((c .before .before .before .before .before .before .before .before .before .before .before .before .before .before .before .before .before .step) .given .1)) .good)))
+returns-6 c = nested-same ((c .unstopped4) .ensures) (nested-goes (finish ((c .before .before .before .before .before .before .before .before .before .before .before .before .before .before .before .loop) .inv .0) _ _ _ ((value-at _ _ _ _ (told _ _ _ _ _ ((c .before .before .before .before .before .before .before .before .before .before .before .before .before .before .next) .ensures) ((c .before .before .before .before .before .before .before .before .before .before .before .before .step) .given .1)) _ _ ((c .before .before .before .before .before .before .before .before .before .before .in-value) .ensures) ((c .before .before .before .before .before .before .before .before .enum-told7) .given .1) _ _ ((c .before .before .before .before .before .before .before .before .before .before .before .before .before .before .before .before .before .before .before .args) .settings .levels)) ∙ first-items _ (withoutOpen Bracket.Square ((c .before .before .before .before .before .before .before .before .before .before .before .before .step) .given .0 .0 .start) ((c .before .before .before .before .before .before .before .before .before .before .before .before .step) .given .0 .0 .end)) _ _ _ ((c .before .before .before .before .before .without-open2) .ensures _) ∙ run-done _ _ _ _ _ _) (omega (arith, (told _ _ _ _ _ ((c .before .before .before .before .before .before .before .before .before .before .before .before .before .before .next) .ensures) ((c .before .before .before .before .before .before .before .before .before .before .before .before .step) .given .1)) .on)) ((told _ _ _ _ _ ((c .before .before .before .before .before .before .before .before .before .before .before .before .before .before .next) .ensures) ((c .before .before .before .before .before .before .before .before .before .before .before .before .step) .given .1)) .base) ((told _ _ _ _ _ ((c .before .before .before .before .before .before .before .before .before .before .before .before .before .before .next) .ensures) ((c .before .before .before .before .before .before .before .before .before .before .before .before .step) .given .1)) .good)))
 
 enum-told-8 : tie.Need-enum-told-8 Inv-loop μ-loop
 enum-told-8 c = search needs
@@ -229,9 +219,7 @@ value-spec =
     same-length-6
     returns-3
     enum-told-5
-    report-before-requires
-    emit-requires-3
-    emit-requires-4
+    without-open-requires
     unstopped-requires-3
     same-length-7
     same-length-8
@@ -242,9 +230,7 @@ value-spec =
     same-length-10
     returns-5
     enum-told-7
-    report-before-requires-2
-    emit-requires-5
-    emit-requires-6
+    without-open-requires-2
     unstopped-requires-4
     same-length-11
     same-length-12
