@@ -5,11 +5,12 @@ use token::checked::MAX_RECORDS;
 use token::record::kind_number_at;
 use token::record::length_at;
 ghost use mathlib.Core.Path.{_≡_};
-ghost use Prim.Native.Nat.{_<_, _≤_};
+ghost use Prim.Native.Nat.{_+_, _<_, _≤_};
 ghost use lib.Dec.{eqb};
 ghost use Rattle.token.specs.Limits.{maxRecords, maxEnd};
 ghost use Rattle.token.specs.Records.{count};
 ghost use Rattle.token.specs.Check.{recordRefusal, checkedFrom, passed, checked};
+ghost use Rattle.checks.specs.Stretches.{fitsAt, allFit, lengthsOf, Narrow};
 
 // Whether a record is not refused for its kind's number or its length.
 fn record_fits(kind: u32, length: u32) -> bool
@@ -53,27 +54,75 @@ fn widened(x: u32) -> usize
     x as usize
 }
 
+fn fits_at(s: &[u8], i: usize) -> bool
+    requires { ⌜ i < count (now s) ⌝ }
+    ensures { λ r. ⌜ r ≡ fitsAt (now (s .entry)) i ⌝ }
+{
+    record_fits(kind_number_at(s, i), length_at(s, i))
+}
+
+// Whether the k records from record i on fit.
+fn all_fit(s: &[u8], i: usize, k: usize) -> bool
+    requires { ⌜ i + k ≤ count (now s) ⌝ }
+    ensures { λ r. ⌜ r ≡ allFit k (now (s .entry)) i ⌝ }
+{
+    let mut nth = 0;
+    while nth < k {
+        if fits_at(s, i + nth) {
+            nth += 1;
+        } else {
+            return false;
+        }
+    }
+    true
+}
+
+// The sum of their lengths, and that each of these is a number of four bytes.
+fn lengths_of(s: &[u8], i: usize, k: usize) -> usize
+    requires { ⌜ i + k ≤ count (now s) ⌝ }
+    requires { ⌜ count (now s) ≤ maxRecords ⌝ }
+    ensures { λ r. ⌜ (r ≡ lengthsOf k (now (s .entry)) i) × Narrow k (now (s .entry)) i ⌝ }
+{
+    let mut lengths = 0;
+    let mut nth = 0;
+    while nth < k {
+        lengths += widened(length_at(s, i + nth));
+        nth += 1;
+    }
+    lengths
+}
+
+// How many records `all_pass` asks in a turn. The compiler writes them out one after another, so that they share what the loop itself
+// costs: its counter and its test.
+const A_TURN: usize = 4;
+
 // Whether every record passes. The records are asked without regard to where they end, and only the last end is held to the limit:
-// the ends rise, so that this decides the same, and is quicker.
+// the ends rise, so that this decides the same, and is quicker. The lengths are summed before the records are asked, so that also where
+// one does not fit it is known of those before it that their sum is small.
 fn all_pass(s: &[u8], from: usize) -> bool
     requires { ⌜ count (now s) ≤ maxRecords ⌝ }
     requires { ⌜ «from» ≤ maxEnd ⌝ }
     ensures { λ r. ⌜ r ≡ passed (checkedFrom (count (now (s .entry))) (now (s .entry)) 0 «from») ⌝ }
 {
     let n = s.len() / 6;
+    let turns = n / A_TURN;
     let mut end = from;
-    let mut i = 0;
-    while i < n {
-        let length = length_at(s, i);
-        let fits = record_fits(kind_number_at(s, i), length);
-        if fits {
-            end = end + widened(length);
-            i += 1;
+    let mut turn = 0;
+    while turn < turns {
+        let lengths = lengths_of(s, turn * A_TURN, A_TURN);
+        if all_fit(s, turn * A_TURN, A_TURN) {
+            end += lengths;
+            turn += 1;
         } else {
             return false;
         }
     }
-    end <= MAX_END
+    let done = turns * A_TURN;
+    let lengths = lengths_of(s, done, n % A_TURN);
+    if all_fit(s, done, n % A_TURN) {
+        return end + lengths <= MAX_END;
+    }
+    false
 }
 
 // The first record that is refused, if any.

@@ -1,5 +1,8 @@
 // What the walk left open of each error: the line of its unexpected start, and of a trailing comma where the comma is. One pass over the errors when
 // the walk is over, so that no walk counts lines or looks for commas.
+use crate::commas::Comma;
+use crate::commas::comma_from;
+use crate::commas::no_comma;
 use crate::points::LinePoint;
 use crate::points::first_line;
 use crate::points::line_from;
@@ -17,15 +20,17 @@ ghost use Rattle.rules.specs.Answer.{errorSize};
 ghost use Rattle.rules.specs.Words.{firstSought};
 ghost use Rattle.line_numbers.specs.Numbering.{numbered, numberedFirst};
 ghost use Rattle.line_numbers.specs.Points.{Counted};
+ghost use Rattle.line_numbers.specs.Commas.{Known};
 ghost use Rattle.line_numbers.specs.Placing.{Places};
 
-// The unexpected span of an error and its line; and the point that was found with them, from which the next error's are found. Along the errors the
-// places rise, but for one fall where the list ends: so the whole pass is linear.
+// The unexpected span of an error and its line; and the point and the comma that were found with them, from which the next error's are found. Along
+// the errors the places rise, but for one fall where the list ends: so the whole pass is linear.
 pub struct Placed {
     pub start: u32,
     pub end: u32,
     pub line: u32,
     pub point: LinePoint,
+    pub comma: Comma,
 }
 
 // The first record at which a comma counts: any, or the one behind the `{`.
@@ -40,8 +45,17 @@ fn first_sought(mode: Mode, behind: usize) -> usize
 
 // From the last three words of an error as the walk leaves them: its span and 0; or where a `}` starts, its record, and one more than the record
 // behind its `{`: then the last comma between these is to blame, or if there is none the place before the `}`.
-fn place_of(s: &[u8], mode: Mode, p: LinePoint, start: u32, end: u32, mark: u32) -> Placed
+fn place_of(
+    s: &[u8],
+    mode: Mode,
+    p: LinePoint,
+    known: Comma,
+    start: u32,
+    end: u32,
+    mark: u32,
+) -> Placed
     requires { ⌜ Counted (now s) (p .cur .base) p ⌝ }
+    requires { ⌜ Known (now s) (p .cur .base) known ⌝ }
     requires { ⌜ count (now s) ≤ maxRecords ⌝ }
     ensures { λ r. ⌜ Places (now (s .entry)) (p .cur .base) mode start end mark r ⌝ }
 {
@@ -52,17 +66,19 @@ fn place_of(s: &[u8], mode: Mode, p: LinePoint, start: u32, end: u32, mark: u32)
             end,
             line: q.line,
             point: q,
+            comma: known,
         };
     }
     let first = first_sought(mode, (mark - 1) as usize);
     let q = point_from(s, p, end as usize);
-    let comma = q.comma;
+    let comma = comma_from(s, known, q);
     if first < comma.behind {
         return Placed {
             start: comma.start,
             end: comma.end,
             line: comma.line,
             point: q,
+            comma,
         };
     }
     let r = line_from(s, q, start);
@@ -71,6 +87,7 @@ fn place_of(s: &[u8], mode: Mode, p: LinePoint, start: u32, end: u32, mark: u32)
         end: start,
         line: r.line,
         point: r,
+        comma,
     }
 }
 
@@ -83,17 +100,19 @@ fn number_first(s: &[u8], base: u32, mode: Mode, n: usize, errors: &mut [u32])
     ensures { λ _. ⌜ now (errors .exit) ≡ numberedFirst mode (allTokens (now (s .entry)) base) n (now (errors .entry)) ⌝ }
 {
     let mut point = first_line(base);
+    let mut comma = no_comma();
     let mut i = 0;
     while i < n {
         let b = i * ERROR_WORDS;
         let start = errors[b + 4];
         let end = errors[b + 5];
         let mark = errors[b + 6];
-        let u = place_of(s, mode, point, start, end, mark);
+        let u = place_of(s, mode, point, comma, start, end, mark);
         errors[b + 4] = u.start;
         errors[b + 5] = u.end;
         errors[b + 6] = u.line;
         point = u.point;
+        comma = u.comma;
         i += 1;
     }
 }

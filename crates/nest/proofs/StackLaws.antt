@@ -172,11 +172,8 @@ module _ {s : List ℕ} {levels : ℕ} {start : Out} {o₀ : Bufs} {cur₀ : Cur
       nested-from q (omega (arith, stack-over-moved e, inv .on)) (y .base ∙ inv .base) (nested-done (r .cur) ev er (r .n) (y .good))
 
   -- the end of the innermost array: on with the nearest that waits
-  pub stack-pop : r .next ≡ Next.Over → (depth ≡ 0 → ⊥)
-      → Stacked s levels start o₀ cur₀ starts ends (depth - 1) (levels - 1 - (depth - 1)) (getD starts (depth - 1) 0) (getD ends (depth - 1) 0) ArrayState.NeedsComma (bufs ev er (r .n)) (r .cur)
-  stack-pop e h =
-      let more : left + 1 ≡ levels - 1 - (depth - 1) = omega (arith, inv .sum, h) in
-      subst (λ (i : ℕ). Stacked s levels start o₀ cur₀ starts ends (depth - 1) i (getD starts (depth - 1) 0) (getD ends (depth - 1) 0) ArrayState.NeedsComma (bufs ev er (r .n)) (r .cur)) more (popped (inv .frames) (inv .held) (here Next.Over e))
+  pub stack-pop : r .next ≡ Next.Over → (depth ≡ 0 → ⊥) → Stacked s levels start o₀ cur₀ starts ends (depth - 1) (left + 1) (getD starts (depth - 1) 0) (getD ends (depth - 1) 0) ArrayState.NeedsComma (bufs ev er (r .n)) (r .cur)
+  stack-pop e h = popped (inv .frames) (inv .held) (here Next.Over e)
     where
       popped : (fs : List Frame) → Held fs starts ends depth left (length (tokensAt s cur)) → run All (resume fs (done (tokensAt s (r .cur)))) (bufs ev er (r .n)) ≡ run All start o₀
           → Stacked s levels start o₀ cur₀ starts ends (depth - 1) (left + 1) (getD starts (depth - 1) 0) (getD ends (depth - 1) 0) ArrayState.NeedsComma (bufs ev er (r .n)) (r .cur)

@@ -93,7 +93,7 @@ pub fn on_array_open(
                     };
                 }
                 depth -= 1;
-                left = levels - 1 - depth as u32;
+                left += 1;
                 inner = Token {
                     kind: Kind::LeftSquareBracket,
                     start: starts[depth],
@@ -176,7 +176,12 @@ pub fn on_inline_table_open(
         };
     }
     let mut n = emit(events, m, Event::InlineTableOpen, head.start, head.end);
-    let mut cur = c;
+    // By its parts, so that the compiler hands it over in memory: in two words its place would have to be taken out at each turn.
+    let mut cur = Cursor {
+        at: c.at,
+        place: c.place,
+        base: c.base,
+    };
     let mut p = Progress {
         state: State::NeedsKey,
         empty: true,

@@ -1,62 +1,82 @@
--- The loop sums the lengths; what the sum tells of the check is the law of Summed.
+-- Each turn sums a stretch, and so do the records that are left behind the turns; what the sum tells of the check is the law of Summed.
 -- Made by ./proofs from Proof.tmpl: change that.
 use mathlib.Core.Path.{_≡_, refl, ap, sym, _∙_}
-use mathlib.Core.Bool.{true, false, false≢true}
+use Prim.Native.Nat.{_+_, _-_, _*_, _/_, _%_, _≤_}
 use native.Mathlib.Omega.{arith}
-use lib.Dec.{eqb}
-use borrow.Author.Tests.{eq-eqb, eqb-true}
-use Prim.Native.Nat.{ℕ, _-_, _<_}
-use Rattle.token.specs.Records.{count, lengthAt, kindNumberAt}
-use Rattle.token.specs.Check.{recordRefusal, passed}
-use Rattle.token.specs.CheckLaws.{Summed, summed-begun, summed-on, summed-refused, summed-end, from-start}
+use Rattle.token.specs.Records.{count}
+use Rattle.token.specs.Check.{passed}
+use Rattle.token.specs.CheckLaws.{Summed, summed-begun, summed-end, from-start}
+use Rattle.checks.proofs.StretchLaws.{summed-by, refused-by}
 use borrow.Author.Needs.{needs}
 use Rattle.checks.proofs.check.all_pass.Statement.{statement}
 use Rattle.checks.proofs.check.all_pass.Tie as tie
 
 abbrev Inv-loop : tie.InvT-loop
-Inv-loop s from n end₀ i₀ end i = Summed s end₀ i₀ end i
+Inv-loop s from n turns end₀ turn₀ end turn = Summed s end₀ 0 end (turn * 4) × (turn ≤ turns)
 
 abbrev μ-loop : tie.MeasureT-loop
-μ-loop s from n end₀ i₀ end i = count s - i
+μ-loop s from n turns end₀ turn₀ end turn = turns - turn
 
 loop-holds : tie.Need-loop-holds Inv-loop μ-loop
-loop-holds c = summed-begun _ _ ((c .before .pre) .1)
+loop-holds c = (summed-begun _ _ ((c .before .pre) .1), omega arith)
 
-length-at-requires : tie.Need-length-at-requires Inv-loop μ-loop
-length-at-requires c κs = search needs
+mul-lengths-of : tie.Need-mul-lengths-of Inv-loop μ-loop
+mul-lengths-of c = search needs
 
-kind-number-at-requires : tie.Need-kind-number-at-requires Inv-loop μ-loop
-kind-number-at-requires c κs = search needs
+lengths-of-requires : tie.Need-lengths-of-requires Inv-loop μ-loop
+lengths-of-requires c κs = search needs
 
-record-fits-requires : tie.Need-record-fits-requires Inv-loop μ-loop
-record-fits-requires c κs = search needs
+mul-all-fit : tie.Need-mul-all-fit Inv-loop μ-loop
+mul-all-fit c = search needs
 
-widened-requires : tie.Need-widened-requires Inv-loop μ-loop
-widened-requires c κs = search needs
+all-fit-requires : tie.Need-all-fit-requires Inv-loop μ-loop
+all-fit-requires c κs = search needs
 
 add-end : tie.Need-add-end Inv-loop μ-loop
-add-end c = omega (arith, (c .before .before .before .before .before .before .loop) .inv .small, (c .widened) .ensures .1, (c .before .before .before .before .before .before .before .before .pre) .0, (c .before .before .before .before .before .loop-test) .taken)
+add-end c =
+    let h : (c .before .before .before .before .loop) .turn * 4 + 4 ≤ (count ((c .before .before .before .before .before .before .args) .s .now)) = omega (arith, (c .before .before .before .loop-test) .taken) in
+    omega (arith, summed-by (((c .before .before .before .before .loop) .inv) .0) 4 h ((c .before .before .lengths-of) .ensures .1) (sym ((c .before .all-fit) .ensures) ∙ (c .if1) .taken) .small, ((c .before .before .lengths-of) .ensures .0), h, (c .before .before .before .before .before .before .pre) .0)
 
-add-i : tie.Need-add-i Inv-loop μ-loop
-add-i c = search needs
+add-turn : tie.Need-add-turn Inv-loop μ-loop
+add-turn c = search needs
 
 loop-less : tie.Need-loop-less Inv-loop μ-loop
 loop-less c = search needs
 
 loop-again : tie.Need-loop-again Inv-loop μ-loop
 loop-again c =
-    let e : eqb (recordRefusal (kindNumberAt ((c .before .before .before .before .before .before .before .before .args) .s .now) ((c .before .before .before .before .before .before .loop) .i)) (lengthAt ((c .before .before .before .before .before .before .before .before .args) .s .now) ((c .before .before .before .before .before .before .loop) .i)) 0) 0 ≡ true = (ap (λ (k : ℕ). eqb (recordRefusal k (lengthAt ((c .before .before .before .before .before .before .before .before .args) .s .now) ((c .before .before .before .before .before .before .loop) .i)) 0) 0) (sym ((c .before .before .before .kind-number-at) .ensures)) ∙ ap (λ (l : ℕ). eqb (recordRefusal ((c .before .before .before .kind-number-at) .result) l 0) 0) (sym ((c .before .before .before .before .length-at) .ensures)) ∙ sym ((c .before .before .record-fits) .ensures)) ∙ (c .before .if1) .taken in
-    let w : (c .widened) .result ≡ (lengthAt ((c .before .before .before .before .before .before .before .before .args) .s .now) ((c .before .before .before .before .before .before .loop) .i)) = (c .widened) .ensures .0 ∙ (c .before .before .before .before .length-at) .ensures in
-    let b : (lengthAt ((c .before .before .before .before .before .before .before .before .args) .s .now) ((c .before .before .before .before .before .before .loop) .i)) < 4294967296 = omega (arith, w, (c .widened) .ensures .1) in
-    rw w (summed-on ((c .before .before .before .before .before .before .loop) .inv) _ ((c .before .before .before .before .before .loop-test) .taken) refl (eqb-true _ _ e) b)
+    let h : (c .before .before .before .before .loop) .turn * 4 + 4 ≤ (count ((c .before .before .before .before .before .before .args) .s .now)) = omega (arith, (c .before .before .before .loop-test) .taken) in
+    let z : ((c .before .before .before .before .loop) .turn + 1) * 4 ≡ (c .before .before .before .before .loop) .turn * 4 + 4 = omega arith in
+    (rw (z, ((c .before .before .lengths-of) .ensures .0)) (summed-by (((c .before .before .before .before .loop) .inv) .0) 4 h ((c .before .before .lengths-of) .ensures .1) (sym ((c .before .all-fit) .ensures) ∙ (c .if1) .taken)), omega (arith, (c .before .before .before .loop-test) .taken))
 
 returns : tie.Need-returns Inv-loop μ-loop
 returns c =
-    let e : eqb (recordRefusal (kindNumberAt ((c .before .before .before .before .before .before .before .args) .s .now) ((c .before .before .before .before .before .loop) .i)) (lengthAt ((c .before .before .before .before .before .before .before .args) .s .now) ((c .before .before .before .before .before .loop) .i)) 0) 0 ≡ false = (ap (λ (k : ℕ). eqb (recordRefusal k (lengthAt ((c .before .before .before .before .before .before .before .args) .s .now) ((c .before .before .before .before .before .loop) .i)) 0) 0) (sym ((c .before .before .kind-number-at) .ensures)) ∙ ap (λ (l : ℕ). eqb (recordRefusal ((c .before .before .kind-number-at) .result) l 0) 0) (sym ((c .before .before .before .length-at) .ensures)) ∙ sym ((c .before .record-fits) .ensures)) ∙ (c .if1) .left in
-    sym (sym (ap passed (from-start ((c .before .before .before .before .before .before .before .args) .s .now) ((c .before .before .before .before .before .before .before .args) .from))) ∙ summed-refused ((c .before .before .before .before .before .loop) .inv) _ ((c .before .before .before .before .loop-test) .taken) refl (λ z. false≢true (sym e ∙ eq-eqb _ _ z)))
+    let h : (c .before .before .before .before .loop) .turn * 4 + 4 ≤ (count ((c .before .before .before .before .before .before .args) .s .now)) = omega (arith, (c .before .before .before .loop-test) .taken) in
+    sym (sym (ap passed (from-start ((c .before .before .before .before .before .before .args) .s .now) ((c .before .before .before .before .before .before .args) .from))) ∙ refused-by (((c .before .before .before .before .loop) .inv) .0) 4 h ((c .before .before .lengths-of) .ensures .1) (sym ((c .before .all-fit) .ensures) ∙ (c .if1) .left))
+
+mul-done : tie.Need-mul-done Inv-loop μ-loop
+mul-done c = search needs
+
+lengths-of-requires-2 : tie.Need-lengths-of-requires-2 Inv-loop μ-loop
+lengths-of-requires-2 c κs = search needs
+
+all-fit-requires-2 : tie.Need-all-fit-requires-2 Inv-loop μ-loop
+all-fit-requires-2 c κs = search needs
+
+add-result : tie.Need-add-result Inv-loop μ-loop
+add-result c =
+    let e : (c .before .before .before .before .loop) .turn ≡ (count ((c .before .before .before .before .before .before .args) .s .now)) / 4 = omega (arith, ((c .before .before .before .before .loop) .inv) .1, (c .before .before .before .loop-test) .left) in let h : (count ((c .before .before .before .before .before .before .args) .s .now)) / 4 * 4 + (count ((c .before .before .before .before .before .before .args) .s .now)) % 4 ≤ (count ((c .before .before .before .before .before .before .args) .s .now)) = omega arith in
+    omega (arith, summed-by (rw e at (((c .before .before .before .before .loop) .inv) .0)) ((count ((c .before .before .before .before .before .before .args) .s .now)) % 4) h ((c .before .before .lengths-of2) .ensures .1) (sym ((c .before .all-fit2) .ensures) ∙ (c .if2) .taken) .small, ((c .before .before .lengths-of2) .ensures .0), h, (c .before .before .before .before .before .before .pre) .0)
 
 returns-2 : tie.Need-returns-2 Inv-loop μ-loop
-returns-2 c = summed-end ((c .before .loop) .inv) ((c .loop-test) .left) _ refl ∙ (ap passed (from-start ((c .before .before .before .args) .s .now) ((c .before .before .before .args) .from)))
+returns-2 c =
+    let e : (c .before .before .before .before .loop) .turn ≡ (count ((c .before .before .before .before .before .before .args) .s .now)) / 4 = omega (arith, ((c .before .before .before .before .loop) .inv) .1, (c .before .before .before .loop-test) .left) in let h : (count ((c .before .before .before .before .before .before .args) .s .now)) / 4 * 4 + (count ((c .before .before .before .before .before .before .args) .s .now)) % 4 ≤ (count ((c .before .before .before .before .before .before .args) .s .now)) = omega arith in
+    rw ((c .before .before .lengths-of2) .ensures .0) (summed-end (summed-by (rw e at (((c .before .before .before .before .loop) .inv) .0)) ((count ((c .before .before .before .before .before .before .args) .s .now)) % 4) h ((c .before .before .lengths-of2) .ensures .1) (sym ((c .before .all-fit2) .ensures) ∙ (c .if2) .taken)) (omega arith) _ refl ∙ (ap passed (from-start ((c .before .before .before .before .before .before .args) .s .now) ((c .before .before .before .before .before .before .args) .from))))
+
+returns-3 : tie.Need-returns-3 Inv-loop μ-loop
+returns-3 c =
+    let e : (c .before .before .before .before .loop) .turn ≡ (count ((c .before .before .before .before .before .before .args) .s .now)) / 4 = omega (arith, ((c .before .before .before .before .loop) .inv) .1, (c .before .before .before .loop-test) .left) in let h : (count ((c .before .before .before .before .before .before .args) .s .now)) / 4 * 4 + (count ((c .before .before .before .before .before .before .args) .s .now)) % 4 ≤ (count ((c .before .before .before .before .before .before .args) .s .now)) = omega arith in
+    sym (sym (ap passed (from-start ((c .before .before .before .before .before .before .args) .s .now) ((c .before .before .before .before .before .before .args) .from))) ∙ refused-by (rw e at (((c .before .before .before .before .loop) .inv) .0)) ((count ((c .before .before .before .before .before .before .args) .s .now)) % 4) h ((c .before .before .lengths-of2) .ensures .1) (sym ((c .before .all-fit2) .ensures) ∙ (c .if2) .left))
 
 pub all-pass-spec : {M : Type 1} → statement M
 all-pass-spec =
@@ -65,13 +85,18 @@ all-pass-spec =
     Inv-loop
     μ-loop
     loop-holds
-    length-at-requires
-    kind-number-at-requires
-    record-fits-requires
-    widened-requires
+    mul-lengths-of
+    lengths-of-requires
+    mul-all-fit
+    all-fit-requires
     add-end
-    add-i
+    add-turn
     loop-less
     loop-again
     returns
-    returns-2)
+    mul-done
+    lengths-of-requires-2
+    all-fit-requires-2
+    add-result
+    returns-2
+    returns-3)

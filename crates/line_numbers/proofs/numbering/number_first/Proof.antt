@@ -4,22 +4,26 @@ use native.Mathlib.Omega.{arith}
 use Prim.Native.Nat.{_-_}
 use lib.ListN.{length-set}
 use Rattle.line_numbers.specs.PointLaws.{counted-own}
+use Rattle.line_numbers.specs.CommaLaws.{known-own}
 use Rattle.line_numbers.proofs.NumberingLaws.{Numbering, numbering-begun, error-room, numbering-on, numbering-end}
 use borrow.Author.Needs.{needs}
 use Rattle.line_numbers.proofs.numbering.number_first.Statement.{statement}
 use Rattle.line_numbers.proofs.numbering.number_first.Tie as tie
 
 abbrev Inv-loop : tie.InvT-loop
-Inv-loop s base mode n errors₀ point₀ i₀ errors point i = Numbering s base mode n errors₀ point i errors
+Inv-loop s base mode n errors₀ point₀ comma₀ i₀ errors point comma i = Numbering s base mode n errors₀ point comma i errors
 
 abbrev μ-loop : tie.MeasureT-loop
-μ-loop s base mode n errors₀ point₀ i₀ errors point i = n - i
+μ-loop s base mode n errors₀ point₀ comma₀ i₀ errors point comma i = n - i
 
 first-line-requires : tie.Need-first-line-requires Inv-loop μ-loop
 first-line-requires c κs = search needs
 
+no-comma-requires : tie.Need-no-comma-requires Inv-loop μ-loop
+no-comma-requires c κs = search needs
+
 loop-holds : tie.Need-loop-holds Inv-loop μ-loop
-loop-holds c = numbering-begun _ _ _ ((c .before .before .before .pre) .0) ((c .before .before .before .pre) .1 .0) ((c .first-line) .ensures)
+loop-holds c = numbering-begun _ _ _ ((c .before .before .before .before .pre) .0) ((c .before .before .before .before .pre) .1 .0) ((c .before .first-line) .ensures) ((c .no-comma) .ensures)
 
 mul-b : tie.Need-mul-b Inv-loop μ-loop
 mul-b c = search needs
@@ -52,34 +56,34 @@ slice-read-mark : tie.Need-slice-read-mark Inv-loop μ-loop
 slice-read-mark c = search needs
 
 place-of-requires : tie.Need-place-of-requires Inv-loop μ-loop
-place-of-requires c κs = (counted-own (((c .before .before .before .before .loop) .inv) .point), (c .before .before .before .before .before .before .before .before .pre) .1 .1 .0)
+place-of-requires c κs = (counted-own (((c .before .before .before .before .loop) .inv) .point), (known-own (((c .before .before .before .before .loop) .inv) .point .based) (((c .before .before .before .before .loop) .inv) .comma), (c .before .before .before .before .before .before .before .before .before .pre) .1 .1 .0))
 
 add-errors : tie.Need-add-errors Inv-loop μ-loop
-add-errors c = omega (arith, (error-room ((c .before .before .before .before .before .loop) .inv) ((c .before .before .before .before .loop-test) .taken) ((c .before .before .before .before .before .before .before .before .before .pre) .1 .1 .1)), (c .before .before .before .before .before .before .before .before .before .good) .1 .1)
+add-errors c = omega (arith, (error-room ((c .before .before .before .before .before .loop) .inv) ((c .before .before .before .before .loop-test) .taken) ((c .before .before .before .before .before .before .before .before .before .before .pre) .1 .1 .1)), (c .before .before .before .before .before .before .before .before .before .before .good) .1 .1)
 
 mul-errors : tie.Need-mul-errors Inv-loop μ-loop
-mul-errors c = omega (arith, (error-room ((c .before .before .before .before .before .loop) .inv) ((c .before .before .before .before .loop-test) .taken) ((c .before .before .before .before .before .before .before .before .before .pre) .1 .1 .1)), (c .before .before .before .before .before .before .before .before .before .good) .1 .1)
+mul-errors c = omega (arith, (error-room ((c .before .before .before .before .before .loop) .inv) ((c .before .before .before .before .loop-test) .taken) ((c .before .before .before .before .before .before .before .before .before .before .pre) .1 .1 .1)), (c .before .before .before .before .before .before .before .before .before .before .good) .1 .1)
 
 slice-write-errors : tie.Need-slice-write-errors Inv-loop μ-loop
 slice-write-errors c = search needs
 
 add-errors-2 : tie.Need-add-errors-2 Inv-loop μ-loop
-add-errors-2 c = omega (arith, (error-room ((c .before .before .before .before .before .loop) .inv) ((c .before .before .before .before .loop-test) .taken) ((c .before .before .before .before .before .before .before .before .before .pre) .1 .1 .1)), (c .before .before .before .before .before .before .before .before .before .good) .1 .1)
+add-errors-2 c = omega (arith, (error-room ((c .before .before .before .before .before .loop) .inv) ((c .before .before .before .before .loop-test) .taken) ((c .before .before .before .before .before .before .before .before .before .before .pre) .1 .1 .1)), (c .before .before .before .before .before .before .before .before .before .before .good) .1 .1)
 
 mul-errors-2 : tie.Need-mul-errors-2 Inv-loop μ-loop
-mul-errors-2 c = omega (arith, (error-room ((c .before .before .before .before .before .loop) .inv) ((c .before .before .before .before .loop-test) .taken) ((c .before .before .before .before .before .before .before .before .before .pre) .1 .1 .1)), (c .before .before .before .before .before .before .before .before .before .good) .1 .1)
+mul-errors-2 c = omega (arith, (error-room ((c .before .before .before .before .before .loop) .inv) ((c .before .before .before .before .loop-test) .taken) ((c .before .before .before .before .before .before .before .before .before .before .pre) .1 .1 .1)), (c .before .before .before .before .before .before .before .before .before .before .good) .1 .1)
 
 slice-write-errors-2 : tie.Need-slice-write-errors-2 Inv-loop μ-loop
-slice-write-errors-2 c = simp length-set (omega (arith, (error-room ((c .before .before .before .before .before .loop) .inv) ((c .before .before .before .before .loop-test) .taken) ((c .before .before .before .before .before .before .before .before .before .pre) .1 .1 .1))))
+slice-write-errors-2 c = simp length-set (omega (arith, (error-room ((c .before .before .before .before .before .loop) .inv) ((c .before .before .before .before .loop-test) .taken) ((c .before .before .before .before .before .before .before .before .before .before .pre) .1 .1 .1))))
 
 add-errors-3 : tie.Need-add-errors-3 Inv-loop μ-loop
-add-errors-3 c = omega (arith, (error-room ((c .before .before .before .before .before .loop) .inv) ((c .before .before .before .before .loop-test) .taken) ((c .before .before .before .before .before .before .before .before .before .pre) .1 .1 .1)), (c .before .before .before .before .before .before .before .before .before .good) .1 .1)
+add-errors-3 c = omega (arith, (error-room ((c .before .before .before .before .before .loop) .inv) ((c .before .before .before .before .loop-test) .taken) ((c .before .before .before .before .before .before .before .before .before .before .pre) .1 .1 .1)), (c .before .before .before .before .before .before .before .before .before .before .good) .1 .1)
 
 mul-errors-3 : tie.Need-mul-errors-3 Inv-loop μ-loop
-mul-errors-3 c = omega (arith, (error-room ((c .before .before .before .before .before .loop) .inv) ((c .before .before .before .before .loop-test) .taken) ((c .before .before .before .before .before .before .before .before .before .pre) .1 .1 .1)), (c .before .before .before .before .before .before .before .before .before .good) .1 .1)
+mul-errors-3 c = omega (arith, (error-room ((c .before .before .before .before .before .loop) .inv) ((c .before .before .before .before .loop-test) .taken) ((c .before .before .before .before .before .before .before .before .before .before .pre) .1 .1 .1)), (c .before .before .before .before .before .before .before .before .before .before .good) .1 .1)
 
 slice-write-errors-3 : tie.Need-slice-write-errors-3 Inv-loop μ-loop
-slice-write-errors-3 c = simp length-set (omega (arith, (error-room ((c .before .before .before .before .before .loop) .inv) ((c .before .before .before .before .loop-test) .taken) ((c .before .before .before .before .before .before .before .before .before .pre) .1 .1 .1))))
+slice-write-errors-3 c = simp length-set (omega (arith, (error-room ((c .before .before .before .before .before .loop) .inv) ((c .before .before .before .before .loop-test) .taken) ((c .before .before .before .before .before .before .before .before .before .before .pre) .1 .1 .1))))
 
 add-i : tie.Need-add-i Inv-loop μ-loop
 add-i c = search needs
@@ -88,7 +92,7 @@ loop-less : tie.Need-loop-less Inv-loop μ-loop
 loop-less c = search needs
 
 loop-again : tie.Need-loop-again Inv-loop μ-loop
-loop-again c = numbering-on ((c .before .before .before .before .before .before .loop) .inv) ((c .before .before .before .before .before .loop-test) .taken) ((c .before .place-of) .ensures)
+loop-again c = numbering-on ((c .before .before .before .before .before .before .before .loop) .inv) ((c .before .before .before .before .before .before .loop-test) .taken) ((c .before .before .place-of) .ensures)
 
 same-length : tie.Need-same-length Inv-loop μ-loop
 same-length c = ((c .before .loop) .inv) .kept
@@ -103,6 +107,7 @@ number-first-spec =
     Inv-loop
     μ-loop
     first-line-requires
+    no-comma-requires
     loop-holds
     mul-b
     add-start

@@ -1,4 +1,4 @@
--- A new cursor, line 1, and no comma.
+-- A new cursor, and line 1.
 -- Made by ./proofs from Proof.tmpl: change that.
 use mathlib.Core.Path.{refl}
 use borrow.Author.Needs.{needs}
@@ -9,7 +9,7 @@ new-requires : tie.Need-new-requires
 new-requires c κs = search needs
 
 returns : tie.Need-returns
-returns c = record { at = (c .new) .ensures; line = refl; none = refl }
+returns c = record { at = (c .new) .ensures; line = refl }
 
 pub first-line-spec : {M : Type 1} → statement M
 first-line-spec =

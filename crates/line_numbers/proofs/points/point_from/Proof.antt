@@ -10,19 +10,19 @@ use Rattle.line_numbers.proofs.points.point_from.Statement.{statement}
 use Rattle.line_numbers.proofs.points.point_from.Tie as tie
 
 abbrev Inv-loop : tie.InvT-loop
-Inv-loop s upto cur₀ comma₀ line₀ cur comma line = Before s (cur₀ .base) upto (record { cur = cur; comma = comma; line = line })
+Inv-loop s upto cur₀ line₀ cur line = Before s (cur₀ .base) upto (record { cur = cur; line = line })
 
 abbrev μ-loop : tie.MeasureT-loop
-μ-loop s upto cur₀ comma₀ line₀ cur comma line = count s - cur .at
+μ-loop s upto cur₀ line₀ cur line = count s - cur .at
 
 not-past-requires : tie.Need-not-past-requires Inv-loop μ-loop
 not-past-requires c κs = (c .before .pre) .0
 
 loop-holds : tie.Need-loop-holds Inv-loop μ-loop
-loop-holds c = before-own ((c .before .before .not-past) .ensures)
+loop-holds c = before-own ((c .before .not-past) .ensures)
 
 returns : tie.Need-returns Inv-loop μ-loop
-returns c = reached-of ((c .before .before .before .before .not-past) .ensures .0 .based) (reached-here ((c .before .loop) .inv) ((c .if1) .taken))
+returns c = reached-of ((c .before .before .before .not-past) .ensures .0 .based) (reached-here ((c .before .loop) .inv) ((c .if1) .taken))
 
 next-requires : tie.Need-next-requires Inv-loop μ-loop
 next-requires c κs = ((c .before .loop) .inv) .point .good
@@ -34,22 +34,19 @@ enum-told : tie.Need-enum-told Inv-loop μ-loop
 enum-told c = search needs
 
 returns-2 : tie.Need-returns-2 Inv-loop μ-loop
-returns-2 c = reached-of ((c .before .before .before .before .before .before .before .not-past) .ensures .0 .based) (reached-end ((c .before .before .before .before .loop) .inv) (told-done _ _ _ ((c .before .before .next) .ensures) ((c .enum-told) .given .1)))
-
-last-comma-requires : tie.Need-last-comma-requires Inv-loop μ-loop
-last-comma-requires c κs = search needs
+returns-2 c = reached-of ((c .before .before .before .before .before .before .not-past) .ensures .0 .based) (reached-end ((c .before .before .before .before .loop) .inv) (told-done _ _ _ ((c .before .before .next) .ensures) ((c .enum-told) .given .1)))
 
 newlines-requires : tie.Need-newlines-requires Inv-loop μ-loop
 newlines-requires c κs = search needs
 
 add-line : tie.Need-add-line Inv-loop μ-loop
-add-line c = omega (arith, line-fits (((c .before .before .before .before .before .before .before .loop) .inv) .point) (told _ _ _ _ _ ((c .before .before .before .before .before .next) .ensures) ((c .before .before .before .step) .given .1)) _ ((c .newlines) .ensures), (c .before .before .before .before .before .before .before .before .before .before .before .before .pre) .1)
+add-line c = omega (arith, line-fits (((c .before .before .before .before .before .before .loop) .inv) .point) (told _ _ _ _ _ ((c .before .before .before .before .next) .ensures) ((c .before .before .step) .given .1)) _ ((c .newlines) .ensures), (c .before .before .before .before .before .before .before .before .before .before .pre) .1)
 
 loop-less : tie.Need-loop-less Inv-loop μ-loop
-loop-less c = omega (arith, (told _ _ _ _ _ ((c .before .before .before .before .before .next) .ensures) ((c .before .before .before .step) .given .1)) .left, (told _ _ _ _ _ ((c .before .before .before .before .before .next) .ensures) ((c .before .before .before .step) .given .1)) .on)
+loop-less c = omega (arith, (told _ _ _ _ _ ((c .before .before .before .before .next) .ensures) ((c .before .before .step) .given .1)) .left, (told _ _ _ _ _ ((c .before .before .before .before .next) .ensures) ((c .before .before .step) .given .1)) .on)
 
 loop-again : tie.Need-loop-again Inv-loop μ-loop
-loop-again c = before-on ((c .before .before .before .before .before .before .before .loop) .inv) (told _ _ _ _ _ ((c .before .before .before .before .before .next) .ensures) ((c .before .before .before .step) .given .1)) ((c .before .before .before .before .before .before .if1) .left) _ ((c .before .last-comma) .ensures) _ ((c .newlines) .ensures)
+loop-again c = before-on ((c .before .before .before .before .before .before .loop) .inv) (told _ _ _ _ _ ((c .before .before .before .before .next) .ensures) ((c .before .before .step) .given .1)) ((c .before .before .before .before .before .if1) .left) _ ((c .newlines) .ensures)
 
 pub point-from-spec : {M : Type 1} → statement M
 point-from-spec =
@@ -64,7 +61,6 @@ point-from-spec =
     enum-known-step
     enum-told
     returns-2
-    last-comma-requires
     newlines-requires
     add-line
     loop-less

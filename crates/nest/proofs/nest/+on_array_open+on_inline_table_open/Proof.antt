@@ -216,7 +216,7 @@ on-array-open-sub-depth : (t : ℕ) → on-array-open-lts.Need-sub-depth (
 ) (on-array-open-at t) on-array-open.Post on-array-open-Inv-loop on-array-open-μ-loop
 on-array-open-sub-depth t c = omega (arith, (c .if2) .left)
 
-on-array-open-sub-left-2 : (t : ℕ) → on-array-open-lts.Need-sub-left-2 (
+on-array-open-add-left : (t : ℕ) → on-array-open-lts.Need-add-left (
   emit-reads.Asked,
   emit-reads.Learnt,
   array-turns-reads.Asked,
@@ -226,9 +226,9 @@ on-array-open-sub-left-2 : (t : ℕ) → on-array-open-lts.Need-sub-left-2 (
   on-inline-table-open-below t,
   on-inline-table-open.Post,
 ) (on-array-open-at t) on-array-open.Post on-array-open-Inv-loop on-array-open-μ-loop
-on-array-open-sub-left-2 t c = omega (arith, ((c .before .before .before .before .before .before .before .before .before .before .before .before .loop) .inv .0) .sum, (c .if2) .left)
+on-array-open-add-left t c = omega (arith, ((c .before .before .before .before .before .before .before .before .before .before .before .before .loop) .inv .0) .sum, (c .if2) .left, (c .before .before .before .before .before .before .before .before .before .before .before .before .before .before .before .before .before .before .before .before .before .before .good))
 
-on-array-open-cast-left : (t : ℕ) → on-array-open-lts.Need-cast-left (
+on-array-open-mul-t44 : (t : ℕ) → on-array-open-lts.Need-mul-t44 (
   emit-reads.Asked,
   emit-reads.Learnt,
   array-turns-reads.Asked,
@@ -238,9 +238,9 @@ on-array-open-cast-left : (t : ℕ) → on-array-open-lts.Need-cast-left (
   on-inline-table-open-below t,
   on-inline-table-open.Post,
 ) (on-array-open-at t) on-array-open.Post on-array-open-Inv-loop on-array-open-μ-loop
-on-array-open-cast-left t c = omega (arith, (c .before .before .before .before .before .before .before .before .before .before .before .before .loop) .inv .5)
+on-array-open-mul-t44 t c = record { fits = omega (arith, (c .before .before .before .before .before .before .before .before .before .before .before .before .loop) .inv .5) }
 
-on-array-open-sub-left-3 : (t : ℕ) → on-array-open-lts.Need-sub-left-3 (
+on-array-open-array-read-t47 : (t : ℕ) → on-array-open-lts.Need-array-read-t47 (
   emit-reads.Asked,
   emit-reads.Learnt,
   array-turns-reads.Asked,
@@ -250,9 +250,9 @@ on-array-open-sub-left-3 : (t : ℕ) → on-array-open-lts.Need-sub-left-3 (
   on-inline-table-open-below t,
   on-inline-table-open.Post,
 ) (on-array-open-at t) on-array-open.Post on-array-open-Inv-loop on-array-open-μ-loop
-on-array-open-sub-left-3 t c = omega (arith, ((c .before .before .before .before .before .before .before .before .before .before .before .before .loop) .inv .0) .sum, (c .if2) .left)
+on-array-open-array-read-t47 t c = omega (arith, (c .before .before .before .before .before .before .before .before .before .before .before .before .loop) .inv .5, (c .if2) .left)
 
-on-array-open-mul-t46 : (t : ℕ) → on-array-open-lts.Need-mul-t46 (
+on-array-open-mul-t48 : (t : ℕ) → on-array-open-lts.Need-mul-t48 (
   emit-reads.Asked,
   emit-reads.Learnt,
   array-turns-reads.Asked,
@@ -262,9 +262,9 @@ on-array-open-mul-t46 : (t : ℕ) → on-array-open-lts.Need-mul-t46 (
   on-inline-table-open-below t,
   on-inline-table-open.Post,
 ) (on-array-open-at t) on-array-open.Post on-array-open-Inv-loop on-array-open-μ-loop
-on-array-open-mul-t46 t c = record { fits = omega (arith, (c .before .before .before .before .before .before .before .before .before .before .before .before .loop) .inv .5) }
+on-array-open-mul-t48 t c = record { fits = omega (arith, (c .before .before .before .before .before .before .before .before .before .before .before .before .loop) .inv .5) }
 
-on-array-open-array-read-t43 : (t : ℕ) → on-array-open-lts.Need-array-read-t43 (
+on-array-open-array-read-t51 : (t : ℕ) → on-array-open-lts.Need-array-read-t51 (
   emit-reads.Asked,
   emit-reads.Learnt,
   array-turns-reads.Asked,
@@ -274,31 +274,7 @@ on-array-open-array-read-t43 : (t : ℕ) → on-array-open-lts.Need-array-read-t
   on-inline-table-open-below t,
   on-inline-table-open.Post,
 ) (on-array-open-at t) on-array-open.Post on-array-open-Inv-loop on-array-open-μ-loop
-on-array-open-array-read-t43 t c = omega (arith, (c .before .before .before .before .before .before .before .before .before .before .before .before .loop) .inv .5, (c .if2) .left)
-
-on-array-open-mul-t49 : (t : ℕ) → on-array-open-lts.Need-mul-t49 (
-  emit-reads.Asked,
-  emit-reads.Learnt,
-  array-turns-reads.Asked,
-  array-turns-reads.Learnt,
-  on-array-open-below t,
-  on-array-open.Post,
-  on-inline-table-open-below t,
-  on-inline-table-open.Post,
-) (on-array-open-at t) on-array-open.Post on-array-open-Inv-loop on-array-open-μ-loop
-on-array-open-mul-t49 t c = record { fits = omega (arith, (c .before .before .before .before .before .before .before .before .before .before .before .before .loop) .inv .5) }
-
-on-array-open-array-read-t44 : (t : ℕ) → on-array-open-lts.Need-array-read-t44 (
-  emit-reads.Asked,
-  emit-reads.Learnt,
-  array-turns-reads.Asked,
-  array-turns-reads.Learnt,
-  on-array-open-below t,
-  on-array-open.Post,
-  on-inline-table-open-below t,
-  on-inline-table-open.Post,
-) (on-array-open-at t) on-array-open.Post on-array-open-Inv-loop on-array-open-μ-loop
-on-array-open-array-read-t44 t c = omega (arith, (c .before .before .before .before .before .before .before .before .before .before .before .before .loop) .inv .5, (c .if2) .left)
+on-array-open-array-read-t51 t c = omega (arith, (c .before .before .before .before .before .before .before .before .before .before .before .before .loop) .inv .5, (c .if2) .left)
 
 on-array-open-loop-less-2 : (t : ℕ) → on-array-open-lts.Need-loop-less-2 (
   emit-reads.Asked,
@@ -432,7 +408,7 @@ on-array-open-add-depth : (t : ℕ) → on-array-open-lts.Need-add-depth (
 ) (on-array-open-at t) on-array-open.Post on-array-open-Inv-loop on-array-open-μ-loop
 on-array-open-add-depth t c = search needs
 
-on-array-open-sub-left-4 : (t : ℕ) → on-array-open-lts.Need-sub-left-4 (
+on-array-open-sub-left-2 : (t : ℕ) → on-array-open-lts.Need-sub-left-2 (
   emit-reads.Asked,
   emit-reads.Learnt,
   array-turns-reads.Asked,
@@ -442,7 +418,7 @@ on-array-open-sub-left-4 : (t : ℕ) → on-array-open-lts.Need-sub-left-4 (
   on-inline-table-open-below t,
   on-inline-table-open.Post,
 ) (on-array-open-at t) on-array-open.Post on-array-open-Inv-loop on-array-open-μ-loop
-on-array-open-sub-left-4 t c = omega (arith, (c .before .if3) .left)
+on-array-open-sub-left-2 t c = omega (arith, (c .before .if3) .left)
 
 on-array-open-emit-requires-2 : (t : ℕ) → on-array-open-lts.Need-emit-requires-2 (
   emit-reads.Asked,
@@ -1052,13 +1028,11 @@ pub +on-array-open+on-inline-table-open-spec : {M : Type 1} → statement M
     (on-array-open-same-length-2 t)
     (on-array-open-returns-2 t)
     (on-array-open-sub-depth t)
-    (on-array-open-sub-left-2 t)
-    (on-array-open-cast-left t)
-    (on-array-open-sub-left-3 t)
-    (on-array-open-mul-t46 t)
-    (on-array-open-array-read-t43 t)
-    (on-array-open-mul-t49 t)
-    (on-array-open-array-read-t44 t)
+    (on-array-open-add-left t)
+    (on-array-open-mul-t44 t)
+    (on-array-open-array-read-t47 t)
+    (on-array-open-mul-t48 t)
+    (on-array-open-array-read-t51 t)
     (on-array-open-loop-less-2 t)
     (on-array-open-loop-again-2 t)
     (on-array-open-enum-known-x t)
@@ -1070,7 +1044,7 @@ pub +on-array-open+on-inline-table-open-spec : {M : Type 1} → statement M
     (on-array-open-mul-ends t)
     (on-array-open-array-write-ends t)
     (on-array-open-add-depth t)
-    (on-array-open-sub-left-4 t)
+    (on-array-open-sub-left-2 t)
     (on-array-open-emit-requires-2 t)
     (on-array-open-loop-less-3 t)
     (on-array-open-loop-again-3 t)

@@ -1,9 +1,9 @@
 -- By the class.
 -- Made by ./proofs from Proof.tmpl: change that.
-use mathlib.Core.Path.{ap, sym, _∙_}
+use mathlib.Core.Path.{sym, _∙_}
 use borrow.Author.Needs.{needs}
-use Rattle.line_numbers.proofs.points.last_comma.Statement.{statement}
-use Rattle.line_numbers.proofs.points.last_comma.Tie as tie
+use Rattle.line_numbers.proofs.commas.is_comma.Statement.{statement}
+use Rattle.line_numbers.proofs.commas.is_comma.Tie as tie
 
 in-search-requires : tie.Need-in-search-requires
 in-search-requires c κs = search needs
@@ -32,8 +32,8 @@ returns-3 c = rw (sym ((c .before .before .in-search) .ensures) ∙ (c .enum-tol
 returns-4 : tie.Need-returns-4
 returns-4 c = rw (sym ((c .before .before .in-search) .ensures) ∙ (c .enum-told4) .given .1)
 
-pub last-comma-spec : {M : Type 1} → statement M
-last-comma-spec =
+pub is-comma-spec : {M : Type 1} → statement M
+is-comma-spec =
     tie.close
     (tie.spec
     in-search-requires
