@@ -8,7 +8,7 @@ use Rattle.text_rules.specs.declared.answer.TextAnswer.{TextAnswer}
 use Rattle.text_rules.specs.TextOutcome.{TextOutcome, textOutcome}
 use Rattle.entries.specs.declared.modes.Chosen.{Chosen}
 use Rattle.entries.specs.Modes.{chosenBy}
-use Rattle.texts.specs.TextVerdicts.{JudgesText}
+use Rattle.text_steps.specs.TextVerdicts.{JudgesText}
 use Rattle.exports.specs.declared.judgements.ExportedVerdict.{ExportedVerdict}
 use Rattle.exports.specs.ExportedVerdicts.{plainVerdict}
 use Rattle.exports.specs.declared.text.ExportedLexed.{ExportedLexed}

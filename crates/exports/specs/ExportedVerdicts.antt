@@ -2,8 +2,8 @@
 use mathlib.Core.Path.{_≡_}
 use mathlib.Core.List.{List}
 use Prim.Native.Nat.{ℕ}
-use Rattle.verdicts.specs.declared.verdict.Verdict.{Verdict}
-use Rattle.verdicts.specs.Verdicts.{Judges}
+use Rattle.judging.specs.declared.verdict.Verdict.{Verdict}
+use Rattle.judging.specs.Verdicts.{Judges}
 use Rattle.exports.specs.declared.judgements.ExportedVerdict.{ExportedVerdict}
 
 -- the verdict that a C structure holds

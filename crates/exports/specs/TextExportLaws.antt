@@ -9,8 +9,8 @@ use Rattle.text_rules.specs.TextOutcome.{TextAnswers}
 use Rattle.rules.specs.declared.options.Options.{Options}
 use Rattle.entries.specs.declared.modes.Chosen.{Chosen}
 use Rattle.entries.specs.Modes.{chosenBy}
-use Rattle.verdicts.specs.declared.verdict.Verdict.{Verdict}
-use Rattle.texts.specs.TextVerdicts.{JudgesText}
+use Rattle.judging.specs.declared.verdict.Verdict.{Verdict}
+use Rattle.text_steps.specs.TextVerdicts.{JudgesText}
 use Rattle.exports.specs.declared.judgements.ExportedVerdict.{ExportedVerdict}
 use Rattle.exports.specs.ExportedVerdicts.{plainVerdict}
 use Rattle.exports.specs.declared.text.ExportedLexed.{ExportedLexed}

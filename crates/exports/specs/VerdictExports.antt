@@ -2,8 +2,8 @@
 use mathlib.Core.Path.{_≡_, sym, subst}
 use mathlib.Core.List.{List}
 use Prim.Native.Nat.{ℕ}
-use Rattle.verdicts.specs.declared.verdict.Verdict.{Verdict}
-use Rattle.verdicts.specs.Verdicts.{Judges}
+use Rattle.judging.specs.declared.verdict.Verdict.{Verdict}
+use Rattle.judging.specs.Verdicts.{Judges}
 use Rattle.exports.specs.declared.judgements.ExportedVerdict.{ExportedVerdict}
 use Rattle.exports.specs.ExportedVerdicts.{plainVerdict, ExportsVerdict}
 

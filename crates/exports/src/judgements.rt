@@ -1,6 +1,6 @@
 // The verdict as a C structure.
-use verdicts::theorems::verdicts_are_determined;
-use verdicts::verdict::Verdict;
+use judging::theorems::verdicts_are_determined;
+use judging::verdict::Verdict;
 ghost use mathlib.Core.Path.{_≡_};
 ghost use Rattle.exports.specs.ExportedVerdicts.{plainVerdict, ExportedVerdictsDetermined};
 

@@ -1,6 +1,6 @@
 // Answers of the list of mistakes as C structures: of a run, and of a text.
 use crate::answer::ExportedAnswer;
-use mistakes::Listed;
+use mistake_rules::answer::Listed;
 use text_mistakes::TextCheck;
 ghost use mathlib.Core.Path.{_≡_};
 ghost use Rattle.exports.specs.Exported.{plain};

@@ -1,7 +1,7 @@
 // Answers to a text as C structures: the lexer's, and the joined entry's.
 use lex::Lexed;
 use text_rules::answer::TextAnswer;
-use texts::theorems::text_verdicts_are_determined;
+use text_steps::theorems::text_verdicts_are_determined;
 ghost use mathlib.Core.Path.{_≡_};
 ghost use Rattle.exports.specs.ExportedTexts.{plainLexed, plainText, ExportedTextsDetermined};
 

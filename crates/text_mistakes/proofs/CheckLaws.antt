@@ -19,10 +19,10 @@ use Rattle.text_rules.specs.declared.answer.TextAnswer.{TextAnswer}
 use Rattle.text_rules.specs.TextOutcome.{TextOutcome, recordsLeft, readingBy, textOutcome, runOf, textRun}
 use Rattle.text_rules.specs.LexedLaws.{lexed-room, lexed-few}
 use Rattle.text_rules.specs.RunLaws.{run-is, tokens-are}
-use Rattle.mistakes.specs.declared.Listed.{Listed}
-use Rattle.mistakes.specs.Outcome.{Listing, unlisted, listed, listedHeld}
-use Rattle.mistakes.specs.Promises.{mistakesOf}
-use Rattle.mistakes.proofs.FitLaws.{run-passed, run-listed}
+use Rattle.mistake_rules.specs.declared.answer.Listed.{Listed}
+use Rattle.mistake_rules.specs.Outcome.{Listing, unlisted, listed, listedHeld}
+use Rattle.mistake_rules.specs.Promises.{mistakesOf}
+use Rattle.mistake_rules.proofs.FitLaws.{run-passed, run-listed}
 use Rattle.text_mistakes.specs.declared.TextCheck.{TextCheck}
 use Rattle.text_mistakes.specs.Checking.{CheckOutcome, checking, checkedAnswer, readAndListed, textListing, checkOutcome, ChecksText, CheckDetermined}
 

@@ -28,12 +28,12 @@ use Rattle.text_rules.specs.TextPremises.{WithinLimits, RecordRoom}
 use Rattle.text_rules.specs.LexedLaws.{accepted, lexed-when}
 use Rattle.text_rules.specs.RunLaws.{run-is, tokens-are, regular-are, few-pass}
 use Rattle.text_rules.proofs.TextBounds.{text-counts-within, text-room-records, text-room-events, text-room-errors}
-use Rattle.texts.specs.TextVerdicts.{SoundText, EventRoom}
-use Rattle.mistakes.specs.declared.Listed.{Listed}
-use Rattle.mistakes.specs.Outcome.{noRoomForMistakes, Listing, unlisted, listed}
-use Rattle.mistakes.specs.Promises.{mistakesOf}
-use Rattle.mistakes.proofs.CompleteLaws.{complete}
-use Rattle.mistakes.proofs.FitLaws.{no-length, empty-fits}
+use Rattle.text_steps.specs.TextVerdicts.{SoundText, EventRoom}
+use Rattle.mistake_rules.specs.declared.answer.Listed.{Listed}
+use Rattle.mistake_rules.specs.Outcome.{noRoomForMistakes, Listing, unlisted, listed}
+use Rattle.mistake_rules.specs.Promises.{mistakesOf}
+use Rattle.mistake_rules.proofs.CompleteLaws.{complete}
+use Rattle.mistake_rules.proofs.FitLaws.{no-length, empty-fits}
 use Rattle.text_mistakes.specs.Checking.{checking, textListing, checkOutcome}
 use Rattle.text_mistakes.specs.TextPromises.{checkOf, Decides, Roomy}
 use Rattle.text_mistakes.proofs.CheckLaws.{bytesOf, baseOf, lexed-zero, run-of, zero-of, tokens-of, passed-of}

@@ -15,8 +15,8 @@ use Rattle.utf8.specs.Utf8.{fits, validFrom}
 use Rattle.scan.specs.Lexer.{startOf, until, lexLiteralString, lexMlLiteralString, escapable, lexBasicString, lexMlBasicString, lexer, tokensOf}
 use Rattle.lex.specs.Lexed.{lexOutcome}
 use Rattle.text_rules.specs.TextOutcome.{textOutcome}
-use Rattle.mistakes.specs.Pieces.{eventsFrom, pieces}
-use Rattle.mistakes.specs.Mistakes.{errorsFrom, merged}
+use Rattle.pieces.specs.Pieces.{eventsFrom, pieces}
+use Rattle.mistake_rules.specs.Mistakes.{errorsFrom, merged}
 use Rattle.text_mistakes.specs.Checking.{checkOutcome}
 use Rattle.text_mistakes.specs.Examples.{examples, toldBy, asListed}
 

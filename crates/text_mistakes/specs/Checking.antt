@@ -9,9 +9,9 @@ use Rattle.rules.specs.declared.options.Options.{Options}
 use Rattle.scan.specs.Lexer.{tokensOf}
 use Rattle.text_rules.specs.declared.answer.TextAnswer.{TextAnswer}
 use Rattle.text_rules.specs.TextOutcome.{TextOutcome, textOutcome, runOf}
-use Rattle.mistakes.specs.declared.Listed.{Listed}
-use Rattle.mistakes.specs.Outcome.{Listing, unlisted, listed}
-use Rattle.mistakes.specs.Promises.{mistakesOf}
+use Rattle.mistake_rules.specs.declared.answer.Listed.{Listed}
+use Rattle.mistake_rules.specs.Outcome.{Listing, unlisted, listed}
+use Rattle.mistake_rules.specs.Promises.{mistakesOf}
 use Rattle.text_mistakes.specs.declared.TextCheck.{TextCheck}
 
 -- the answer and the buffers after it

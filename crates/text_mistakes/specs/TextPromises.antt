@@ -8,8 +8,8 @@ use Rattle.rules.specs.Entries.{documentEntry}
 use Rattle.rules.specs.Answer.{eventSize, errorSize}
 use Rattle.bounds.specs.Most.{mostEvents, mostErrors}
 use Rattle.text_rules.specs.TextPremises.{RecordRoom}
-use Rattle.texts.specs.TextVerdicts.{SoundText, EventRoom}
-use Rattle.mistakes.specs.Outcome.{noRoomForMistakes}
+use Rattle.text_steps.specs.TextVerdicts.{SoundText, EventRoom}
+use Rattle.mistake_rules.specs.Outcome.{noRoomForMistakes}
 use Rattle.text_mistakes.specs.declared.TextCheck.{TextCheck}
 use Rattle.text_mistakes.specs.Checking.{checkOutcome}
 

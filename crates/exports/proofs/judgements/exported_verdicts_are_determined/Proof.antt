@@ -1,7 +1,7 @@
 -- Both hold the same verdict, and a C structure is known by what it holds.
 -- what a C structure and the buffer behind it hold
 -- Made by ./proofs from Proof.tmpl: change that.
-use Rattle.verdicts.specs.Verdicts.{Judgement}
+use Rattle.judging.specs.Verdicts.{Judgement}
 use Rattle.exports.specs.ExportedVerdicts.{plainVerdict, ExportedJudgement}
 use borrow.Author.Needs.{needs}
 use Rattle.exports.proofs.judgements.exported_verdicts_are_determined.Statement.{statement}

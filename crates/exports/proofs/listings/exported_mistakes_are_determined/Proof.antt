@@ -2,7 +2,7 @@
 -- the C structures that hold an answer, with its buffers
 -- Made by ./proofs from Proof.tmpl: change that.
 use mathlib.Core.Path.{_≡_, sym, _∙_}
-use Rattle.mistakes.specs.Outcome.{Listing}
+use Rattle.mistake_rules.specs.Outcome.{Listing}
 use Rattle.text_mistakes.specs.Checking.{CheckOutcome}
 use Rattle.exports.specs.ExportedMistakes.{ExportedListing, ExportedCheckOutcome}
 use Rattle.exports.proofs.listings.exported_mistakes_are_determined.Statement.{statement}

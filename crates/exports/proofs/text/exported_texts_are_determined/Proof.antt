@@ -4,7 +4,7 @@
 use mathlib.Core.Path.{_≡_, sym, _∙_}
 use Rattle.lex.specs.Lexed.{LexOutcome}
 use Rattle.text_rules.specs.TextOutcome.{TextOutcome}
-use Rattle.texts.specs.TextVerdicts.{TextJudgement}
+use Rattle.text_steps.specs.TextVerdicts.{TextJudgement}
 use Rattle.exports.specs.ExportedVerdicts.{plainVerdict}
 use Rattle.exports.specs.ExportedTexts.{ExportedLexedOutcome, ExportedTextOutcome, ExportedTextJudgement}
 use borrow.Author.Needs.{needs}
