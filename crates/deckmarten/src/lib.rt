@@ -6,13 +6,13 @@ pub mod listings;
 pub mod text;
 pub mod version;
 
+use choices::modes::Chosen;
+use choices::modes::choose;
+use choices::modes::unknown_mode;
 use entries::entries::parse_document;
 use entries::entries::parse_key;
 use entries::entries::parse_simple_key;
 use entries::entries::parse_value;
-use entries::modes::Chosen;
-use entries::modes::choose;
-use entries::modes::unknown_mode;
 use exports::answer::ExportedAnswer;
 use exports::answer::exported;
 use exports::options::ExportedOptions;

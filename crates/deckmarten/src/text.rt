@@ -1,6 +1,6 @@
 // Text in, for programs in C and Rust: the lexer by itself, the joined entry, and the yes of a text.
-use entries::modes::Chosen;
-use entries::modes::choose;
+use choices::modes::Chosen;
+use choices::modes::choose;
 use exports::judgements::ExportedVerdict;
 use exports::judgements::exported_verdict;
 use exports::options::ExportedOptions;

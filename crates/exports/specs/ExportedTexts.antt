@@ -6,8 +6,8 @@ use Rattle.lex.specs.declared.Lexed.{Lexed}
 use Rattle.lex.specs.Lexed.{LexOutcome, lexOutcome}
 use Rattle.text_rules.specs.declared.answer.TextAnswer.{TextAnswer}
 use Rattle.text_rules.specs.TextOutcome.{TextOutcome, textOutcome}
-use Rattle.entries.specs.declared.modes.Chosen.{Chosen}
-use Rattle.entries.specs.Modes.{chosenBy}
+use Rattle.choices.specs.declared.modes.Chosen.{Chosen}
+use Rattle.choices.specs.Modes.{chosenBy}
 use Rattle.text_steps.specs.TextVerdicts.{JudgesText}
 use Rattle.exports.specs.declared.judgements.ExportedVerdict.{ExportedVerdict}
 use Rattle.exports.specs.ExportedVerdicts.{plainVerdict}

@@ -5,8 +5,8 @@ use Prim.Native.Nat.{ℕ}
 use Rattle.rules.specs.declared.answer.Answer.{Answer}
 use Rattle.mistake_rules.specs.declared.answer.Listed.{Listed}
 use Rattle.mistake_rules.specs.Outcome.{Lists, listing}
-use Rattle.text_mistakes.specs.declared.TextCheck.{TextCheck}
-use Rattle.text_mistakes.specs.Checking.{ChecksText}
+use Rattle.text_listing.specs.declared.TextCheck.{TextCheck}
+use Rattle.text_listing.specs.Checking.{ChecksText}
 use Rattle.exports.specs.declared.listings.ExportedListed.{ExportedListed}
 use Rattle.exports.specs.declared.listings.ExportedCheck.{ExportedCheck}
 use Rattle.exports.specs.ExportedMistakes.{plainListed, plainCheck, ExportsListing, ExportsCheck}

@@ -1,7 +1,7 @@
 // Answers of the list of mistakes as C structures: of a run, and of a text.
 use crate::answer::ExportedAnswer;
 use mistake_rules::answer::Listed;
-use text_mistakes::TextCheck;
+use text_listing::TextCheck;
 ghost use mathlib.Core.Path.{_≡_};
 ghost use Rattle.exports.specs.Exported.{plain};
 ghost use Rattle.exports.specs.ExportedMistakes.{plainListed, plainCheck, ExportedMistakesDetermined};

@@ -11,7 +11,7 @@ use Rattle.rules.specs.Lines.{lineOf}
 use Rattle.rules.specs.Answer.{errorSize, filled}
 use Rattle.line_numbers.specs.declared.points.LinePoint.{LinePoint}
 use Rattle.line_numbers.specs.Points.{Counted, Numbered}
-use Rattle.entries.proofs.FillLaws.{Sized}
+use Rattle.filling.specs.FillLaws.{Sized}
 use Rattle.pieces.specs.declared.pieces.Piece.{Piece}
 use Rattle.pieces.specs.declared.pieces.Found.{Found}
 use Rattle.mistakes.specs.declared.listing.Noted.{Noted}

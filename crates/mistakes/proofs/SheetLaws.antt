@@ -5,7 +5,7 @@ use Prim.Native.Nat.{ℕ, suc}
 use native.Mathlib.Numerals.{add-one}
 use lib.ListN.{length, length-append}
 use Rattle.rules.specs.Answer.{errorSize, filled}
-use Rattle.entries.proofs.FillLaws.{Sized, sized-more, stored, filled-none}
+use Rattle.filling.specs.FillLaws.{Sized, sized-more, stored, filled-none}
 use Rattle.mistake_rules.specs.Sheets.{Sheet, putAt, putOne, putAll}
 
 pub put-append : (ws vs : List (List ℕ)) (o : Sheet) → putAll (ws ++ vs) o ≡ putAll vs (putAll ws o)

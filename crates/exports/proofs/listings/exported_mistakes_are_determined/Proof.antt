@@ -3,7 +3,7 @@
 -- Made by ./proofs from Proof.tmpl: change that.
 use mathlib.Core.Path.{_≡_, sym, _∙_}
 use Rattle.mistake_rules.specs.Outcome.{Listing}
-use Rattle.text_mistakes.specs.Checking.{CheckOutcome}
+use Rattle.text_listing.specs.Checking.{CheckOutcome}
 use Rattle.exports.specs.ExportedMistakes.{ExportedListing, ExportedCheckOutcome}
 use Rattle.exports.proofs.listings.exported_mistakes_are_determined.Statement.{statement}
 use Rattle.exports.proofs.listings.exported_mistakes_are_determined.Tie as tie
