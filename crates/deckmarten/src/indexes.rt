@@ -3,11 +3,11 @@ use crate::answer::ExportedAnswer;
 use crate::judgements::taken;
 use index::Indexed;
 use index::index as index_of;
-use index::reading::HeaderAt;
-use index::reading::header_at;
 use index::theorems::indexes_are_determined;
+use index_entries::reading::HeaderAt;
+use index_entries::reading::header_at;
 ghost use mathlib.Core.Path.{_≡_};
-ghost use Rattle.index.specs.Headers.{mark};
+ghost use Rattle.headers.specs.Headers.{mark};
 ghost use Rattle.deckmarten.specs.Exported.{plain};
 ghost use Rattle.deckmarten.specs.ExportedIndexes.{plainIndexed, ExportsIndex, headerStructure, ExportsHeader, ExportedIndexesDetermined};
 

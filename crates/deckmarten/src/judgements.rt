@@ -1,7 +1,7 @@
 // The yes for programs in C and Rust: whether a run was quiet, whether a list is regular, and whether a list fits.
 use crate::answer::ExportedAnswer;
-use quiet::regular::is_regular;
 use quiet::run::is_quiet;
+use regular::is_regular;
 use rules::answer::Answer;
 use verdicts::theorems::verdicts_are_determined;
 use verdicts::verdict::Verdict;

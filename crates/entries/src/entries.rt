@@ -2,9 +2,8 @@
 use checks::check::check;
 use documents::document::document;
 use keys::keys::key;
-use keys::keys::simple_key;
-use line_ends::eof::eof;
 use line_numbers::numbering::number_errors;
+use list_ends::eof;
 use nest::nest::NestWalk;
 use nest::nest::unstopped;
 use output::emitting::Counts;
@@ -15,6 +14,7 @@ use rules::answer::ERROR_WORDS;
 use rules::answer::EVENT_WORDS;
 use rules::options::Options;
 use rules::options::Settings;
+use simple_keys::simple_key;
 use token::checked::Checked;
 use token::cursor::Cursor;
 use values::value::value;

@@ -5,7 +5,7 @@ use crate::verdict::is_unjudged;
 use entries::entries::read_document;
 use fitting::theorems::fits_then_quiet;
 use fitting::theorems::quiet_exactly_when_fits_within;
-use quiet::keys::is_quiet_without_multi_line_key;
+use multi_line_keys::is_quiet_without_multi_line_key;
 use rules::answer::EVENT_WORDS;
 use rules::options::Mode;
 use rules::options::Options;

@@ -2,8 +2,8 @@
 use entries::entries::parse_document;
 use fitting::theorems::fits_then_quiet;
 use fitting::theorems::quiet_exactly_when_fits_within;
-use quiet::keys::is_quiet_without_multi_line_key;
-use quiet::regular::is_regular;
+use multi_line_keys::is_quiet_without_multi_line_key;
+use regular::is_regular;
 use rules::answer::EVENT_WORDS;
 use rules::options::Mode;
 use rules::options::Options;
