@@ -6,7 +6,7 @@ use exports::indexes::ExportedIndexed;
 use exports::indexes::exported_header;
 use exports::indexes::exported_indexed;
 use index::index as index_of;
-use index::reading::header_at;
+use index_entries::reading::header_at;
 ghost use Rattle.exports.specs.Exported.{plain};
 ghost use Rattle.exports.specs.ExportedIndexes.{ExportsIndex, ExportsHeader};
 

@@ -3,7 +3,7 @@ use exports::answer::ExportedAnswer;
 use exports::answer::taken;
 use exports::judgements::ExportedVerdict;
 use exports::judgements::exported_verdict;
-use quiet::regular::is_regular;
+use regular::is_regular;
 use quiet::run::is_quiet;
 use verdicts::verdict::fits;
 ghost use mathlib.Core.Path.{_≡_};

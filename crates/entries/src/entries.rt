@@ -4,7 +4,7 @@ use entry_steps::steps::Begun;
 use entry_steps::steps::answered;
 use entry_steps::steps::begin;
 use keys::keys::key;
-use keys::keys::simple_key;
+use simple_keys::simple_key;
 use nest::nest::unstopped;
 use output::emitting::Counts;
 use output::emitting::Walk;

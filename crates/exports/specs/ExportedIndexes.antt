@@ -4,10 +4,10 @@ use mathlib.Core.List.{List}
 use Prim.Native.Nat.{ℕ}
 use Rattle.rules.specs.declared.answer.Answer.{Answer}
 use Rattle.index.specs.declared.Indexed.{Indexed}
-use Rattle.index.specs.declared.reading.HeaderAt.{HeaderAt}
-use Rattle.index.specs.Headers.{mark}
+use Rattle.index_entries.specs.declared.reading.HeaderAt.{HeaderAt}
+use Rattle.headers.specs.Headers.{mark}
 use Rattle.index.specs.Outcome.{Indexes}
-use Rattle.index.specs.Reading.{headerAt}
+use Rattle.index_entries.specs.Reading.{headerAt}
 use Rattle.exports.specs.declared.indexes.ExportedIndexed.{ExportedIndexed}
 use Rattle.exports.specs.declared.indexes.ExportedHeader.{ExportedHeader}
 

@@ -2,10 +2,10 @@
 use crate::answer::ExportedAnswer;
 use crate::answer::taken;
 use index::Indexed;
-use index::reading::HeaderAt;
+use index_entries::reading::HeaderAt;
 use index::theorems::indexes_are_determined;
 ghost use mathlib.Core.Path.{_≡_};
-ghost use Rattle.index.specs.Headers.{mark};
+ghost use Rattle.headers.specs.Headers.{mark};
 ghost use Rattle.exports.specs.Exported.{plain};
 ghost use Rattle.exports.specs.ExportedIndexes.{plainIndexed, headerStructure, ExportedIndexesDetermined};
 

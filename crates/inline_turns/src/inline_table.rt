@@ -7,7 +7,7 @@ use crate::table_turn::read;
 use array_parts::brackets::without_open;
 use array_parts::turn::Next;
 use array_parts::turn::unclosed;
-use inline_parts::actions::action_at;
+use inline_actions::action_at;
 use inline_parts::parts::missing;
 use inline_parts::parts::refuse;
 use inline_parts::parts::table_dot;
@@ -48,7 +48,7 @@ ghost use Rattle.rules.specs.Out.{span};
 ghost use Rattle.rules.specs.InlineTable.{inlineTableTurn};
 ghost use Rattle.output.specs.Pour.{bufs};
 ghost use Rattle.array_parts.specs.Turning.{Turned};
-ghost use Rattle.inline_parts.specs.Parts.{actionTable};
+ghost use Rattle.inline_actions.specs.Actions.{actionTable};
 
 // One turn in the inline table that `head` opened, of which `opened` is the first record behind it. The table of actions is lent, since the turns of a
 // loop share one.

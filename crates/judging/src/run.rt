@@ -2,8 +2,8 @@
 use crate::verdict::Verdict;
 use crate::verdict::answered;
 use crate::verdict::is_unjudged;
-use quiet::keys::is_quiet_without_multi_line_key;
-use quiet::regular::is_regular;
+use multi_line_keys::is_quiet_without_multi_line_key;
+use regular::is_regular;
 use rules::answer::Answer;
 use rules::answer::EVENT_WORDS;
 ghost use mathlib.Core.Path.{_≡_};

@@ -3,7 +3,7 @@
 // registers.
 use crate::turns::array_turns;
 use array_parts::turn::Next;
-use inline_parts::actions::action_table;
+use inline_actions::action_table;
 use inline_turns::inline_table::inline_table_turn;
 use output::emitting::Counts;
 use output::emitting::Walk;

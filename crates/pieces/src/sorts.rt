@@ -1,7 +1,7 @@
 // The sort of an event: whether it is sound, and if not, what is wrong with it.
 use crate::messages::MULTI_LINE_STRING;
 use crate::messages::missing;
-use quiet::keys::is_multi_line_key;
+use multi_line_keys::is_multi_line_key;
 use rules::answer::EVENT_WORDS;
 ghost use mathlib.Core.Path.{_≡_};
 ghost use Prim.Native.Nat.{_+_, _*_, _≤_};

@@ -7,7 +7,7 @@ use choices::modes::unknown_mode;
 use entries::entries::parse_document;
 use rules::answer::Answer;
 use token::checked::MAX_RECORDS;
-use token::writing::put_record;
+use writing::put_record;
 ghost use mathlib.Core.Path.{_≡_};
 ghost use mathlib.Core.List.{_++_};
 ghost use Prim.Native.Nat.{_+_, _*_, _≤_};

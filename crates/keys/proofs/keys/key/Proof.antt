@@ -10,7 +10,7 @@ use Rattle.output.specs.Pour.{bufs}
 use Rattle.output.specs.WalkLaws.{Looped, begun, again, finish, finish-by, first-item, run-done, told, told-done}
 use Rattle.rules.specs.Out.{done, _▹_}
 use Rattle.rules.specs.Keys.{key, keyValid}
-use Rattle.key_dots.specs.KeyWalks.{nothingLeft}
+use Rattle.key_spaces.specs.Nothing.{nothingLeft}
 use Rattle.rules.specs.Expected as expected
 use Rattle.output.specs.WalkLaws.{at-end}
 use Rattle.keys.proofs.KeyLaws.{key-at, key-valid}

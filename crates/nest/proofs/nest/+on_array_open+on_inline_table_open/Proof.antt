@@ -14,7 +14,7 @@ use Rattle.rules.specs.InlineTable.{inlineTableTurn}
 use Rattle.rules.specs.Nest.{onOpen}
 use Rattle.output.specs.Pour.{bufs}
 use Rattle.output.specs.TurnLaws.{Turns, turns-begun}
-use Rattle.inline_parts.specs.Parts.{actionTable}
+use Rattle.inline_actions.specs.Actions.{actionTable}
 use Rattle.nest.specs.NestedLaws.{nested-item, nested-as}
 use Rattle.nest.proofs.StackLaws.{Stacked, stack-begun, stack-moved, stack-over-moved, stack-array-moved, stack-table-moved, stack-next, stack-over, stack-pop, stack-push, stack-none, stack-array-again, stack-array-stop, stack-table-again, stack-table-stop}
 use Rattle.nest.proofs.NestLaws.{turn-moved, turn-next, turn-over, array-moved, table-moved, array-again, array-stop, table-again, table-stop, open-array, open-table, no-level}
@@ -27,7 +27,7 @@ use Rattle.nest.proofs.nest.+on_array_open+on_inline_table_open.Lts-on_
 use Rattle.nest.proofs.nest.on_inline_table_open.Reads as on-inline-table-open
 use Rattle.nest.proofs.nest.on_inline_table_open.Kinds as on-inline-table-open-kinds
 use Rattle.nest.proofs.nest.+on_array_open+on_inline_table_open.Lts-on_inline_table_open as on-inline-table-open-lts
-use Rattle.inline_parts.proofs.actions.action_table.Reads as action-table-reads
+use Rattle.inline_actions.proofs.action_table.Reads as action-table-reads
 use Rattle.inline_turns.proofs.inline_table.inline_table_turn.Reads as inline-table-turn-reads
 use Rattle.nest.proofs.turns.array_turns.Reads as array-turns-reads
 use Rattle.output.proofs.emitting.emit.Reads as emit-reads
