@@ -3,7 +3,7 @@ use documents::document::document;
 use entry_steps::steps::Begun;
 use entry_steps::steps::answered;
 use entry_steps::steps::begin;
-use keys::keys::key;
+use dotted_keys::keys::key;
 use simple_keys::simple_key;
 use nest::nest::unstopped;
 use output::emitting::Counts;

@@ -13,11 +13,11 @@ use Rattle.rules.specs.Keys.{key, keyValid}
 use Rattle.key_spaces.specs.Nothing.{nothingLeft}
 use Rattle.rules.specs.Expected as expected
 use Rattle.output.specs.WalkLaws.{at-end}
-use Rattle.keys.proofs.KeyLaws.{key-at, key-valid}
+use Rattle.dotted_keys.proofs.KeyLaws.{key-at, key-valid}
 use Rattle.output.specs.NextLaws.{back-at}
 use borrow.Author.Needs.{needs}
-use Rattle.keys.proofs.keys.key.Statement.{statement}
-use Rattle.keys.proofs.keys.key.Tie as tie
+use Rattle.dotted_keys.proofs.keys.key.Statement.{statement}
+use Rattle.dotted_keys.proofs.keys.key.Tie as tie
 
 abbrev Inv-loop : tie.InvT-loop
 Inv-loop s message events₀ errors₀ cur₀ n₀ events errors cur n =
