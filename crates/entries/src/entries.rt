@@ -1,10 +1,9 @@
 // The four entries: record bytes, a base and two lent buffers in; the answer out, and the buffers filled.
 use documents::document::document;
+use dotted_keys::keys::key;
 use entry_steps::steps::Begun;
 use entry_steps::steps::answered;
 use entry_steps::steps::begin;
-use dotted_keys::keys::key;
-use simple_keys::simple_key;
 use nest::nest::unstopped;
 use output::emitting::Counts;
 use output::emitting::Walk;
@@ -12,6 +11,7 @@ use output::message::INVALID_KEY;
 use rules::answer::Answer;
 use rules::options::Options;
 use rules::options::Settings;
+use simple_keys::simple_key;
 use token::cursor::Cursor;
 use values::value::value;
 ghost use mathlib.Core.Path.{_≡_};

@@ -1,8 +1,8 @@
 // What the entries begin with: the check. And what they end with: what is left behind the end, the places and lines that the walk left open, and the
 // answer.
 use checks::check::check;
-use list_ends::eof;
 use line_numbers::numbering::number_errors;
+use list_ends::eof;
 use nest::nest::NestWalk;
 use nest::nest::unstopped;
 use output::emitting::Counts;

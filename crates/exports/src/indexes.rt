@@ -2,8 +2,8 @@
 use crate::answer::ExportedAnswer;
 use crate::answer::taken;
 use index::Indexed;
-use index_entries::reading::HeaderAt;
 use index::theorems::indexes_are_determined;
+use index_entries::reading::HeaderAt;
 ghost use mathlib.Core.Path.{_≡_};
 ghost use Rattle.headers.specs.Headers.{mark};
 ghost use Rattle.exports.specs.Exported.{plain};

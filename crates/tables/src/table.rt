@@ -1,6 +1,6 @@
 // Tables and array tables.
-use key_spaces::opt_whitespace;
 use dotted_keys::keys::key;
+use key_spaces::opt_whitespace;
 use output::emitting::Counts;
 use output::emitting::Walk;
 use output::emitting::emit;
