@@ -1,4 +1,4 @@
--- From an entry's answer to the C structure that holds it. Assumes nothing.
+-- From an entry's answer to the C structure that holds it. Proved; nothing here needs to be believed.
 use mathlib.Core.Path.{_≡_, ap, _∙_}
 use mathlib.Core.List.{List}
 use Prim.Native.Nat.{ℕ}

@@ -54,11 +54,6 @@ pub record Judges (s : List ℕ) (base : ℕ) (events after : List ℕ) (v : Ver
   pub place : v .place ≡ placeOf (documentRun asCrate s base events [] .answer)
   pub left : after ≡ documentRun asCrate s base events [] .events
 
--- over any run that left this answer and `after`, whatever it left of the error words, v is what `fits` answers
-abbrev pub JudgesRun : List ℕ → ℕ → Answer → List ℕ → Verdict → Type 0
-JudgesRun s base answer after v =
-    (events errors : List ℕ) → length after ≡ length events → record { answer = answer; events = after; errors = errors } ≡ documentRun asCrate s base events [] → Judges s base events after v
-
 -- an answer of `fits` with the event buffer behind it
 pub record Judgement : Type 0 where
   pub verdict : Verdict

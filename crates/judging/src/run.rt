@@ -11,7 +11,7 @@ ghost use mathlib.Core.Bool.{true};
 ghost use mathlib.Core.Logic.{_↔_};
 ghost use Rattle.token.specs.Tokens.{allTokens};
 ghost use Rattle.fitting.specs.Premises.{Regular};
-ghost use Rattle.judging.specs.Verdicts.{JudgesRun};
+ghost use Rattle.judging.specs.JudgedRuns.{JudgesRun};
 
 // Whether the list is regular. Where that is known, because the caller wrote the records itself, it is not asked.
 fn known_or_regular(known: bool, records: &[u8], base: u32) -> bool

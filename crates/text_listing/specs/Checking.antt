@@ -69,17 +69,3 @@ abbrev pub CheckDetermined : List ℕ → List ℕ → List ℕ → List ℕ →
 CheckDetermined text records events errors mistakes =
     (x y : CheckOutcome) → ChecksText text records events errors mistakes (x .records) (x .events) (x .errors) (x .mistakes) (x .answer)
     → ChecksText text records events errors mistakes (y .records) (y .events) (y .errors) (y .mistakes) (y .answer) → x ≡ y
-
--- the answer and the buffers behind it are what the joined entry left of some text, with some buffers before it
-pub record WasRead (read : TextAnswer) (recordsAfter eventsAfter errorsAfter : List ℕ) : Type 0 where
-  pub text : List ℕ
-  pub records : List ℕ
-  pub events : List ℕ
-  pub errors : List ℕ
-  pub is : record { answer = read; records = recordsAfter; events = eventsAfter; errors = errorsAfter } ≡ textOutcome checking text records events errors
-
--- whatever text it was, r is what `check_text` answers, and `after` the buffer of mistakes behind it
-abbrev pub ListsRead : TextAnswer → List ℕ → List ℕ → List ℕ → List ℕ → List ℕ → TextCheck → Type 0
-ListsRead read recordsAfter eventsAfter errorsAfter mistakes after r =
-    (text records events errors : List ℕ) → record { answer = read; records = recordsAfter; events = eventsAfter; errors = errorsAfter } ≡ textOutcome checking text records events errors
-    → ChecksText text records events errors mistakes recordsAfter eventsAfter errorsAfter after r

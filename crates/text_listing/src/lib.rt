@@ -5,7 +5,8 @@ use mistakes::mistakes_of;
 use rules::answer::Answer;
 use text_rules::answer::TextAnswer;
 ghost use mathlib.Core.Path.{_≡_};
-ghost use Rattle.text_listing.specs.Checking.{checkedAnswer, WasRead, ListsRead};
+ghost use Rattle.text_listing.specs.Checking.{checkedAnswer};
+ghost use Rattle.text_listing.specs.ReadTexts.{WasRead, ListsRead};
 
 // As the joined entry's answer, and how many mistakes there are. The text fits exactly if there is no refusal and no mistake.
 pub struct TextCheck {
