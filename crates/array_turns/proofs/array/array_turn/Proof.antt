@@ -44,7 +44,9 @@ returns : tie.Need-returns
 returns c =
     array-as ((c .wanting) .ensures) ((c .before .over) .ensures) (record {
       is = λ base q nest loop. at-end _ _ _ _ (arrayTurn (span ((c .before .before .before .before .before .before .before .before .before .before .before .before .before .before .before .args) .head .start) ((c .before .before .before .before .before .before .before .before .before .before .before .before .before .before .before .args) .head .end)) nest loop ((c .before .before .before .before .before .before .before .before .before .before .before .before .before .before .before .args) .state)) (λ ts. unclosedItems message.unclosedArray expected.closeSquare (span ((c .before .before .before .before .before .before .before .before .before .before .before .before .before .before .before .args) .head .start) ((c .before .before .before .before .before .before .before .before .before .before .before .before .before .before .before .args) .head .end)) ▸ done ts) (told-done _ _ _ ((c .before .before .before .before .before .before .before .before .before .before .before .next) .ensures) ((c .before .before .before .before .before .before .before .before .before .enum-told) .given .1)) refl ∙ first-items _ (unclosedItems message.unclosedArray expected.closeSquare (span ((c .before .before .before .before .before .before .before .before .before .before .before .before .before .before .before .args) .head .start) ((c .before .before .before .before .before .before .before .before .before .before .before .before .before .before .before .args) .head .end))) _ (bufs ((c .before .before .before .before .before .before .before .before .before .before .before .before .before .before .before .args) .events .now) ((c .before .before .before .before .before .before .before .before .before .before .before .before .before .before .before .args) .errors .now) ((c .before .before .before .before .before .before .before .before .before .before .before .before .before .before .before .args) .m)) _ ((c .before .before .before .before .before .before .unclosed) .ensures base q);
-      good = (c .before .before .before .before .before .before .before .before .before .before .before .before .before .before .before .pre); on = omega arith; base = refl
+      good = (c .before .before .before .before .before .before .before .before .before .before .before .before .before .before .before .pre);
+      on = omega arith;
+      base = refl;
     }) tt
 
 in-array-requires : tie.Need-in-array-requires
@@ -204,7 +206,9 @@ returns-2 : tie.Need-returns-2
 returns-2 c =
     array-as ((c .wanting2) .ensures) ((c .before .again) .ensures) (record {
       is = λ base q nest loop. array-at _ _ _ _ (told _ _ _ _ _ ((c .before .before .before .before .before .before .before .before .before .before .before .before .before .before .before .next) .ensures) ((c .before .before .before .before .before .before .before .before .before .before .before .before .before .step) .given .1)) _ _ ((c .before .before .before .before .before .before .before .before .before .before .before .in-array) .ensures) ((c .before .before .before .before .before .before .before .before .before .enum-told2) .given .1) _ _ (span ((c .before .before .before .before .before .before .before .before .before .before .before .before .before .before .before .before .before .before .before .args) .head .start) ((c .before .before .before .before .before .before .before .before .before .before .before .before .before .before .before .before .before .before .before .args) .head .end)) nest loop ((c .before .before .before .before .before .before .before .before .before .before .before .before .before .before .before .before .before .before .before .args) .state) ∙ then-goes (loop ((c .before .before .before .before .before .before .before .before .before .before .before .before .before .before .before .before .before .before .before .args) .state)) ((c .before .before .before .before .before .before .on-comment) .ensures) base ((told _ _ _ _ _ ((c .before .before .before .before .before .before .before .before .before .before .before .before .before .before .before .next) .ensures) ((c .before .before .before .before .before .before .before .before .before .before .before .before .before .step) .given .1)) .base ∙ q);
-      good = (c .before .before .before .before .before .before .on-comment) .ensures .good; on = omega (arith, (told _ _ _ _ _ ((c .before .before .before .before .before .before .before .before .before .before .before .before .before .before .before .next) .ensures) ((c .before .before .before .before .before .before .before .before .before .before .before .before .before .step) .given .1)) .on, (c .before .before .before .before .before .before .on-comment) .ensures .on); base = (c .before .before .before .before .before .before .on-comment) .ensures .base ∙ (told _ _ _ _ _ ((c .before .before .before .before .before .before .before .before .before .before .before .before .before .before .before .next) .ensures) ((c .before .before .before .before .before .before .before .before .before .before .before .before .before .step) .given .1)) .base
+      good = (c .before .before .before .before .before .before .on-comment) .ensures .good;
+      on = omega (arith, (told _ _ _ _ _ ((c .before .before .before .before .before .before .before .before .before .before .before .before .before .before .before .next) .ensures) ((c .before .before .before .before .before .before .before .before .before .before .before .before .before .step) .given .1)) .on, (c .before .before .before .before .before .before .on-comment) .ensures .on);
+      base = (c .before .before .before .before .before .before .on-comment) .ensures .base ∙ (told _ _ _ _ _ ((c .before .before .before .before .before .before .before .before .before .before .before .before .before .before .before .next) .ensures) ((c .before .before .before .before .before .before .before .before .before .before .before .before .before .step) .given .1)) .base;
     }) tt
 
 same-length-5 : tie.Need-same-length-5
@@ -289,7 +293,9 @@ returns-12 : tie.Need-returns-12
 returns-12 c =
     array-as ((c .wanting12) .ensures) ((c .before .again7) .ensures) (record {
       is = λ base q nest loop. array-at _ _ _ _ (told _ _ _ _ _ ((c .before .before .before .before .before .before .before .before .before .before .before .before .before .before .before .before .before .before .before .before .before .before .next) .ensures) ((c .before .before .before .before .before .before .before .before .before .before .before .before .before .before .before .before .before .before .before .before .step) .given .1)) _ _ ((c .before .before .before .before .before .before .before .before .before .before .before .before .before .before .before .before .before .before .in-array) .ensures) ((c .before .before .before .before .before .before .before .before .before .before .before .before .before .before .before .before .enum-told12) .given .1) _ _ (span ((c .before .before .before .before .before .before .before .before .before .before .before .before .before .before .before .before .before .before .before .before .before .before .before .before .before .before .args) .head .start) ((c .before .before .before .before .before .before .before .before .before .before .before .before .before .before .before .before .before .before .before .before .before .before .before .before .before .before .args) .head .end)) nest loop ((c .before .before .before .before .before .before .before .before .before .before .before .before .before .before .before .before .before .before .before .before .before .before .before .before .before .before .args) .state) ∙ (first-items _ (missingComma (span ((c .before .before .before .before .before .before .before .before .before .before .before .before .before .before .before .before .before .before .before .before .before .before .before .before .before .before .args) .head .start) ((c .before .before .before .before .before .before .before .before .before .before .before .before .before .before .before .before .before .before .before .before .before .before .before .before .before .before .args) .head .end)) ((c .before .before .before .before .before .before .before .before .before .before .before .before .before .before .before .before .before .before .before .before .before .before .before .before .before .before .args) .state) ((c .before .before .before .before .before .before .before .before .before .before .before .before .before .before .before .before .before .before .before .before .step) .given .0 .0 .start) ((c .before .before .before .before .before .before .before .before .before .before .before .before .before .before .before .before .before .before .before .before .step) .given .0 .0 .end)) _ (bufs ((c .before .before .before .before .before .before .before .before .before .before .before .before .before .before .before .before .before .before .before .before .before .before .before .before .before .before .args) .events .now) ((c .before .before .before .before .before .before .before .before .before .before .before .before .before .before .before .before .before .before .before .before .before .before .before .before .before .before .args) .errors .now) ((c .before .before .before .before .before .before .before .before .before .before .before .before .before .before .before .before .before .before .before .before .before .before .before .before .before .before .args) .m)) _ ((c .before .before .before .before .before .before .before .before .before .before .before .before .before .missing-comma4) .ensures _)) ∙ then-goes (loop _) ((c .before .before .before .before .before .before .on-scalar) .ensures) base ((told _ _ _ _ _ ((c .before .before .before .before .before .before .before .before .before .before .before .before .before .before .before .before .before .before .before .before .before .before .next) .ensures) ((c .before .before .before .before .before .before .before .before .before .before .before .before .before .before .before .before .before .before .before .before .step) .given .1)) .base ∙ q);
-      good = (c .before .before .before .before .before .before .on-scalar) .ensures .good; on = omega (arith, (told _ _ _ _ _ ((c .before .before .before .before .before .before .before .before .before .before .before .before .before .before .before .before .before .before .before .before .before .before .next) .ensures) ((c .before .before .before .before .before .before .before .before .before .before .before .before .before .before .before .before .before .before .before .before .step) .given .1)) .on, (c .before .before .before .before .before .before .on-scalar) .ensures .on); base = (c .before .before .before .before .before .before .on-scalar) .ensures .base ∙ (told _ _ _ _ _ ((c .before .before .before .before .before .before .before .before .before .before .before .before .before .before .before .before .before .before .before .before .before .before .next) .ensures) ((c .before .before .before .before .before .before .before .before .before .before .before .before .before .before .before .before .before .before .before .before .step) .given .1)) .base
+      good = (c .before .before .before .before .before .before .on-scalar) .ensures .good;
+      on = omega (arith, (told _ _ _ _ _ ((c .before .before .before .before .before .before .before .before .before .before .before .before .before .before .before .before .before .before .before .before .before .before .next) .ensures) ((c .before .before .before .before .before .before .before .before .before .before .before .before .before .before .before .before .before .before .before .before .step) .given .1)) .on, (c .before .before .before .before .before .before .on-scalar) .ensures .on);
+      base = (c .before .before .before .before .before .before .on-scalar) .ensures .base ∙ (told _ _ _ _ _ ((c .before .before .before .before .before .before .before .before .before .before .before .before .before .before .before .before .before .before .before .before .before .before .next) .ensures) ((c .before .before .before .before .before .before .before .before .before .before .before .before .before .before .before .before .before .before .before .before .step) .given .1)) .base;
     }) tt
 
 pub array-turn-spec : {M : Type 1} → statement M

@@ -1002,15 +1002,15 @@ pub +on-array-open+on-inline-table-open-spec : {M : Type 1} → statement M
 +on-array-open+on-inline-table-open-spec =
     close μ-on-array-open μ-on-inline-table-open
     (λ t. on-array-open-lts.spec (
-  emit-reads.Asked,
-  emit-reads.Learnt,
-  array-turns-reads.Asked,
-  array-turns-reads.Learnt,
-  on-array-open-below t,
-  on-array-open.Post,
-  on-inline-table-open-below t,
-  on-inline-table-open.Post,
-)
+      emit-reads.Asked,
+      emit-reads.Learnt,
+      array-turns-reads.Asked,
+      array-turns-reads.Learnt,
+      on-array-open-below t,
+      on-array-open.Post,
+      on-inline-table-open-below t,
+      on-inline-table-open.Post,
+    )
     (on-array-open-at t)
     on-array-open.Post
     on-array-open-Inv-loop
@@ -1062,17 +1062,17 @@ pub +on-array-open+on-inline-table-open-spec : {M : Type 1} → statement M
     (on-array-open-loop-less-5 t)
     (on-array-open-loop-again-5 t))
     λ t. on-inline-table-open-lts.spec (
-  emit-reads.Asked,
-  emit-reads.Learnt,
-  action-table-reads.Asked,
-  action-table-reads.Learnt,
-  inline-table-turn-reads.Asked,
-  inline-table-turn-reads.Learnt,
-  on-array-open-below t,
-  on-array-open.Post,
-  on-inline-table-open-below t,
-  on-inline-table-open.Post,
-)
+      emit-reads.Asked,
+      emit-reads.Learnt,
+      action-table-reads.Asked,
+      action-table-reads.Learnt,
+      inline-table-turn-reads.Asked,
+      inline-table-turn-reads.Learnt,
+      on-array-open-below t,
+      on-array-open.Post,
+      on-inline-table-open-below t,
+      on-inline-table-open.Post,
+    )
     (on-inline-table-open-at t)
     on-inline-table-open.Post
     on-inline-table-open-Inv-loop
