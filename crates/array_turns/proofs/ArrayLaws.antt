@@ -19,6 +19,7 @@ use Rattle.output.specs.WalkLaws.{at-token}
 use Rattle.scalars.specs.ScalarWalks.{Starts}
 use Rattle.scalars.specs.StartLaws.{ScalarsStart, class-starts}
 use Rattle.array_turns.specs.declared.array.ArrayTurn.{ArrayTurn}
+use Rattle.array_parts.specs.declared.turn.Turn.{Turn}
 use Rattle.array_parts.specs.Turning.{Turned, Wants, commaItems}
 
 -- arrays: the token that was read, by what its kind is to an array
@@ -54,7 +55,9 @@ isScalar InArray.Scalar = true
 pub array-starts : (k : Kind) (x : InArray) → x ≡ inArray k → x ≡ InArray.Scalar → Starts (startingOf k)
 array-starts = class-starts inArray isScalar InArray.Scalar refl (every-kind (ScalarsStart inArray isScalar) tt tt tt tt tt tt tt tt tt tt tt tt tt tt tt tt)
 
--- an answer that is made by a function
+-- an answer that is made by functions
 module _ {s : List ℕ} {c : Cursor} {o : Bufs} {a b : List ℕ} where
-  pub array-as : {rule : Nest → (ArrayState → List Tok → Out) → Out} {r r' : ArrayTurn} → r ≡ r' → Turned ArrayState s rule c o a b (r' .cur) (r' .n) (r' .state) (r' .next) → Wants (r' .next) (r' .state) → Turned ArrayState s rule c o a b (r .cur) (r .n) (r .state) (r .next) × Wants (r .next) (r .state)
-  array-as {rule} e x y = subst (λ (z : ArrayTurn). Turned ArrayState s rule c o a b (z .cur) (z .n) (z .state) (z .next) × Wants (z .next) (z .state)) (sym e) (x, y)
+  pub array-as : {rule : Nest → (ArrayState → List Tok → Out) → Out} {r : ArrayTurn} {t t' : Turn} {w : ArrayState} → r ≡ record { turn = t; state = w } → t ≡ t' → Turned ArrayState s rule c o a b (t' .cur) (t' .n) w (t' .next) → Wants (t' .next) w
+      → Turned ArrayState s rule c o a b (r .turn .cur) (r .turn .n) (r .state) (r .turn .next) × Wants (r .turn .next) (r .state)
+  array-as {rule} {w = w} e f x y =
+      subst (λ (z : ArrayTurn). Turned ArrayState s rule c o a b (z .turn .cur) (z .turn .n) (z .state) (z .turn .next) × Wants (z .turn .next) (z .state)) (sym (e ∙ ap (λ (t : Turn). record { turn = t; state = w }) f)) (x, y)

@@ -3,7 +3,12 @@ use array_parts::brackets::without_open;
 use array_parts::parts::comma;
 use array_parts::parts::missing_comma;
 use array_parts::turn::Next;
+use array_parts::turn::Turn;
+use array_parts::turn::again;
+use array_parts::turn::opening;
+use array_parts::turn::over;
 use array_parts::turn::unclosed;
+use classes::array::in_array;
 use output::emitting::Counts;
 use output::emitting::Walk;
 use output::emitting::emit;
@@ -14,7 +19,6 @@ use output::message::UNCLOSED_ARRAY;
 use output::message::UNEXPECTED_EQUALS_IN_ARRAY;
 use rules::array::ArrayState;
 use rules::array::InArray;
-use rules::array::in_array;
 use rules::event::Event;
 use rules::skipping::Bracket;
 use scalars::scalar::on_scalar;
@@ -29,53 +33,17 @@ ghost use Rattle.rules.specs.Array.{arrayTurn};
 ghost use Rattle.output.specs.Pour.{bufs};
 ghost use Rattle.array_parts.specs.Turning.{Turned, Wants};
 
+// A turn, and the state behind it.
 pub struct ArrayTurn {
-    pub cur: Cursor,
-    pub n: Counts,
+    pub turn: Turn,
     pub state: ArrayState,
-    pub next: Next,
 }
 
-// Another turn, from where a walk ended and in a state.
-fn again(w: Walk, state: ArrayState) -> ArrayTurn
-    ensures { λ r. ⌜ r ≡ record { cur = w .cur; n = w .n; state = state; next = Next.Again } ⌝ }
+// A turn behind which the array is in a state, and so wants a value or a comma.
+fn wanting(turn: Turn, state: ArrayState) -> ArrayTurn
+    ensures { λ r. ⌜ r ≡ record { turn = turn; state = state } ⌝ }
 {
-    let cur = w.cur;
-    let n = w.n;
-    ArrayTurn {
-        cur,
-        n,
-        state,
-        next: Next::Again,
-    }
-}
-
-// The array's end.
-fn over(w: Walk, state: ArrayState) -> ArrayTurn
-    ensures { λ r. ⌜ r ≡ record { cur = w .cur; n = w .n; state = state; next = Next.Over } ⌝ }
-{
-    let cur = w.cur;
-    let n = w.n;
-    ArrayTurn {
-        cur,
-        n,
-        state,
-        next: Next::Over,
-    }
-}
-
-// First what a bracket opens: a value, behind which a comma is wanted.
-fn opening(w: Walk, next: Next) -> ArrayTurn
-    ensures { λ r. ⌜ r ≡ record { cur = w .cur; n = w .n; state = ArrayState.NeedsComma; next = next } ⌝ }
-{
-    let cur = w.cur;
-    let n = w.n;
-    ArrayTurn {
-        cur,
-        n,
-        state: ArrayState::NeedsComma,
-        next,
-    }
+    ArrayTurn { turn, state }
 }
 
 // One turn in the array that `head` opened.
@@ -89,7 +57,7 @@ pub fn array_turn(
     errors: &mut [u32],
 ) -> ArrayTurn
     requires { ⌜ Good (now s) c ⌝ }
-    ensures { λ r. ⌜ Turned ArrayState (now (s .entry)) (λ nest loop. arrayTurn (span (head .start) (head .end)) nest loop state (tokensAt (now (s .entry)) c)) c (bufs (now (events .entry)) (now (errors .entry)) m) (now (events .exit)) (now (errors .exit)) (r .cur) (r .n) (r .state) (r .next) × Wants (r .next) (r .state) ⌝ }
+    ensures { λ r. ⌜ Turned ArrayState (now (s .entry)) (λ nest loop. arrayTurn (span (head .start) (head .end)) nest loop state (tokensAt (now (s .entry)) c)) c (bufs (now (events .entry)) (now (errors .entry)) m) (now (events .exit)) (now (errors .exit)) (r .turn .cur) (r .turn .n) (r .state) (r .turn .next) × Wants (r .turn .next) (r .state) ⌝ }
 {
     let step = c.next(s);
     let Step::Got(t, past) = step else {
@@ -106,7 +74,7 @@ pub fn array_turn(
             events,
             errors,
         );
-        return over(Walk { cur: c, n }, state);
+        return wanting(over(Walk { cur: c, n }), state);
     };
     let k = t.kind;
     let x = in_array(k);
@@ -117,24 +85,24 @@ pub fn array_turn(
             let from = past;
             let sofar = m;
             let w = on_comment(list, remark, from, sofar, events, errors);
-            again(w, state)
+            wanting(again(w), state)
         }
         InArray::Whitespace => {
             let n = emit(events, m, Event::Whitespace, t.start, t.end);
-            again(Walk { cur: past, n }, state)
+            wanting(again(Walk { cur: past, n }), state)
         }
         InArray::Newline => {
             let n = emit(events, m, Event::Newline, t.start, t.end);
-            again(Walk { cur: past, n }, state)
+            wanting(again(Walk { cur: past, n }), state)
         }
         InArray::Eof => {
             let i = report_at(errors, m, UNCLOSED_ARRAY, CLOSE_SQUARE, head, t);
             let n = emit(events, i, Event::ArrayClose, t.start, t.start);
-            over(Walk { cur: past, n }, state)
+            wanting(over(Walk { cur: past, n }), state)
         }
         InArray::Comma => {
             let n = comma(m, state, head, t, events, errors);
-            again(Walk { cur: past, n }, ArrayState::NeedsValue)
+            wanting(again(Walk { cur: past, n }), ArrayState::NeedsValue)
         }
         InArray::Equals => {
             let i = report_at(
@@ -146,29 +114,35 @@ pub fn array_turn(
                 t,
             );
             let n = emit(events, i, Event::Error, t.start, t.end);
-            again(Walk { cur: past, n }, state)
+            wanting(again(Walk { cur: past, n }), state)
         }
         InArray::OpenCurly => {
             let n = missing_comma(m, state, head, t, events, errors);
-            opening(Walk { cur: past, n }, Next::OpenTable(t))
+            wanting(
+                opening(Walk { cur: past, n }, Next::OpenTable(t)),
+                ArrayState::NeedsComma,
+            )
         }
         InArray::CloseCurly => {
             let h = missing_comma(m, state, head, t, events, errors);
             let n = without_open(h, Bracket::Curly, t, events, errors);
-            again(Walk { cur: past, n }, ArrayState::NeedsComma)
+            wanting(again(Walk { cur: past, n }), ArrayState::NeedsComma)
         }
         InArray::OpenSquare => {
             let n = missing_comma(m, state, head, t, events, errors);
-            opening(Walk { cur: past, n }, Next::OpenArray(t))
+            wanting(
+                opening(Walk { cur: past, n }, Next::OpenArray(t)),
+                ArrayState::NeedsComma,
+            )
         }
         InArray::CloseSquare => {
             let n = emit(events, m, Event::ArrayClose, t.start, t.end);
-            over(Walk { cur: past, n }, state)
+            wanting(over(Walk { cur: past, n }), state)
         }
         InArray::Scalar => {
             let h = missing_comma(m, state, head, t, events, errors);
             let w = on_scalar(s, t, past, h, events, errors);
-            again(w, ArrayState::NeedsComma)
+            wanting(again(w), ArrayState::NeedsComma)
         }
     }
 }

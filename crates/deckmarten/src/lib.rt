@@ -1,29 +1,26 @@
 // The four entries, and the document entry over token structs, for programs in C and Rust. A slice passes as a pointer and a length, a struct
 // as a C structure.
-pub mod answer;
 pub mod indexes;
 pub mod judgements;
 pub mod listings;
-pub mod options;
 pub mod text;
-pub mod theorems;
 pub mod version;
 
-use crate::answer::ExportedAnswer;
-use crate::answer::exported;
-use crate::options::ExportedOptions;
+use choices::modes::Chosen;
+use choices::modes::choose;
+use choices::modes::unknown_mode;
 use entries::entries::parse_document;
 use entries::entries::parse_key;
 use entries::entries::parse_simple_key;
 use entries::entries::parse_value;
-use entries::modes::Chosen;
-use entries::modes::choose;
-use entries::modes::unknown_mode;
+use exports::answer::ExportedAnswer;
+use exports::answer::exported;
+use exports::options::ExportedOptions;
 use structs::Token;
 use structs::parse_tokens;
 ghost use Rattle.rules.specs.Entries.{documentEntry, keyEntry, simpleKeyEntry, valueEntry};
 ghost use Rattle.structs.specs.Structs.{recordsOf};
-ghost use Rattle.deckmarten.specs.Exported.{Exports};
+ghost use Rattle.exports.specs.Exported.{Exports};
 
 #[no_mangle]
 pub extern "C" fn deckmarten_parse_document(

@@ -1,20 +1,18 @@
-// Which version of the library an archive holds, so that a program can hold it to the header that it was compiled with. A version is a
-// million times the major number, a thousand times the minor one, and the patch number.
+// Which version of the library an archive holds, so that a program can hold it to the header that it was compiled with.
+use exports::version::this_version;
 ghost use mathlib.Core.Path.{_≡_};
-ghost use Rattle.deckmarten.specs.Version.{version};
-
-const VERSION: u32 = 10000;
+ghost use Rattle.exports.specs.Version.{version};
 
 #[no_mangle]
 pub extern "C" fn deckmarten_version() -> u32
     ensures { λ r. ⌜ r ≡ version ⌝ }
 {
-    VERSION
+    this_version()
 }
 
 // The same by a name that only this version has: whoever looks for it finds out an archive of another one without a call.
 #[no_mangle]
-pub extern "C" fn deckmarten_version_10000() -> u32
+pub extern "C" fn deckmarten_version_10001() -> u32
     ensures { λ r. ⌜ r ≡ version ⌝ }
 {
     deckmarten_version()

@@ -1,4 +1,5 @@
 // The document loop.
+use classes::document::in_document;
 use expression_strays::strays::on_missing_expression_key;
 use expression_strays::strays::on_missing_std_table;
 use expressions::expression::key_and_value;
@@ -12,7 +13,6 @@ use output::emitting::emit;
 use output::emitting::empty_key;
 use output::message::KEY_WITH_NO_VALUE;
 use rules::document::InDocument;
-use rules::document::in_document;
 use rules::event::Event;
 use rules::options::Settings;
 use skip_lines::skipping::on_comment;

@@ -1,4 +1,3 @@
 // The four entries. This is what programs cite.
 pub mod entries;
-pub mod modes;
 pub mod theorems;

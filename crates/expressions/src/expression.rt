@@ -3,7 +3,7 @@
 // counts stay in registers.
 use expression_strays::strays::no_equals;
 use key_dots::dots::dot_keys;
-use key_dots::dots::opt_whitespace;
+use key_spaces::opt_whitespace;
 use line_ends::line_end::usual_line_end;
 use nest::nest::NestWalk;
 use nest::nest::unstopped;

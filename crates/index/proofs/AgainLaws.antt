@@ -11,12 +11,12 @@ use lib.Seq.{getD-append-add}
 use lib.Dec.{eqb, ltb}
 use borrow.Author.Tests.{eq-eqb, lt-ltb, eqb-true}
 use Rattle.token.specs.Limits.{maxRecords}
-use Rattle.index.specs.declared.reading.HeaderAt.{HeaderAt}
-use Rattle.index.specs.Headers.{Header, opensHeader, closing, partsUpTo, upToHeader, headersFrom, kindsFrom, headersIn, mark, entrySize, entryBytes, indexBytes}
-use Rattle.index.specs.Reading.{twoAt, fourAt, isEntry, headerAt}
+use Rattle.index_entries.specs.declared.reading.HeaderAt.{HeaderAt}
+use Rattle.headers.specs.Headers.{Header, opensHeader, closing, partsUpTo, upToHeader, headersFrom, kindsFrom, headersIn, mark, entrySize, entryBytes, indexBytes}
+use Rattle.index_entries.specs.Reading.{twoAt, fourAt, isEntry, headerAt}
 use Rattle.index.specs.Reads.{ReadsFrom, IndexReads}
-use Rattle.index.proofs.CountLaws.{kinds-length}
-use Rattle.index.proofs.ReadLaws.{by-mark, at-end, an-entry}
+use Rattle.headers.proofs.CountLaws.{kinds-length}
+use Rattle.index_entries.proofs.ReadLaws.{by-mark, at-end, an-entry}
 
 -- a header whose fields fit
 record Fits (h : Header) : Type 0 where

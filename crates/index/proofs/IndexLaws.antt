@@ -9,7 +9,7 @@ use lib.Dec.{ltb}
 use borrow.Author.Tests.{lt-ltb, le-ltb}
 use Rattle.rules.specs.declared.answer.Answer.{Answer}
 use Rattle.index.specs.declared.Indexed.{Indexed}
-use Rattle.index.specs.Headers.{headersIn, indexBytes, entrySize}
+use Rattle.headers.specs.Headers.{headersIn, indexBytes, entrySize}
 use Rattle.index.specs.Refusals.{notQuiet, noRoomForIndex}
 use Rattle.index.specs.Outcome.{IndexOutcome, indexOutcome, IndexDetermined}
 

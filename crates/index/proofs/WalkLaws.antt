@@ -10,12 +10,12 @@ use lib.Dec.{eqb, ltb}
 use borrow.Author.Tests.{lt-ltb}
 use Rattle.token.specs.Limits.{maxRecords}
 use Rattle.rules.specs.Answer.{eventSize}
-use Rattle.index.specs.declared.state.IndexState.{IndexState}
-use Rattle.index.specs.Headers.{opensHeader, Header, headersFrom, kindsFrom, headersIn, entrySize, entryBytes, indexBytes}
-use Rattle.index.specs.States.{more, partsAfter, stateAfter, stateBehind, fresh, headerOf, ended, Finishable, Finished}
-use Rattle.index.specs.Placing.{placed}
-use Rattle.index.proofs.StateLaws.{current, collected, finished, Within, noted}
-use Rattle.index.proofs.PlacedLaws.{placed-on, placed-none, placed-length, placed-start, index-length, index-append}
+use Rattle.headers.specs.declared.state.IndexState.{IndexState}
+use Rattle.headers.specs.Headers.{opensHeader, Header, headersFrom, kindsFrom, headersIn, entrySize, entryBytes, indexBytes}
+use Rattle.headers.specs.States.{more, partsAfter, stateAfter, stateBehind, fresh, headerOf, ended, Finishable, Finished}
+use Rattle.headers.specs.Placing.{placed}
+use Rattle.headers.proofs.StateLaws.{current, collected, finished, Within, noted}
+use Rattle.index_entries.proofs.PlacedLaws.{placed-on, placed-none, placed-length, placed-start, index-length, index-append}
 
 -- a header that ends here has the parts and the events so far
 no-more-parts : (counting : Bool) (parts : ℕ) → parts + cond counting 0 0 ≡ parts

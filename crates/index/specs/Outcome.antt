@@ -11,7 +11,7 @@ use Rattle.rules.specs.declared.answer.Answer.{Answer}
 use Rattle.rules.specs.Answer.{eventSize}
 use Rattle.quiet.specs.Runs.{QuietAnswer}
 use Rattle.index.specs.declared.Indexed.{Indexed}
-use Rattle.index.specs.Headers.{Header, headersIn, indexBytes, entrySize}
+use Rattle.headers.specs.Headers.{Header, headersIn, indexBytes, entrySize}
 use Rattle.index.specs.Refusals.{notQuiet, noRoomForIndex}
 
 -- the answer and the words are those of a quiet run, the buffer holds its events, and they are no more than such a run can have: one a record

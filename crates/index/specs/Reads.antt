@@ -3,9 +3,9 @@ use mathlib.Core.Path.{_≡_}
 use mathlib.Core.List.{List, [], _∷_}
 use Prim.Native.Nat.{ℕ, _+_, _≤_}
 use Rattle.token.specs.Limits.{maxRecords}
-use Rattle.index.specs.declared.reading.HeaderAt.{HeaderAt}
-use Rattle.index.specs.Headers.{Header, headersIn, indexBytes, entrySize}
-use Rattle.index.specs.Reading.{headerAt}
+use Rattle.index_entries.specs.declared.reading.HeaderAt.{HeaderAt}
+use Rattle.headers.specs.Headers.{Header, headersIn, indexBytes, entrySize}
+use Rattle.index_entries.specs.Reading.{headerAt}
 
 -- from this position on the bytes read as these headers, and then they end
 abbrev pub ReadsFrom : List ℕ → ℕ → List Header → Type 0

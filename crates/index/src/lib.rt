@@ -1,19 +1,15 @@
 // The index of headers: for each table header of a quiet run the place of its open event, its key parts, whether it is an array table, and
 // how many events it has.
-pub mod counted;
-pub mod entry;
-pub mod reading;
 pub mod refusals;
-pub mod state;
 pub mod theorems;
 pub mod walked;
 
-use crate::counted::count_headers;
-use crate::entry::ENTRY_SIZE;
 use crate::refusals::NO_ROOM_FOR_INDEX;
 use crate::refusals::NOT_QUIET;
-use crate::state::begin;
 use crate::walked::walk;
+use headers::counted::count_headers;
+use headers::state::begin;
+use index_entries::entry::ENTRY_SIZE;
 use quiet::run::is_quiet;
 use rules::answer::Answer;
 use rules::answer::EVENT_WORDS;
@@ -24,8 +20,8 @@ ghost use mathlib.Core.Logic.{_↔_};
 ghost use mathlib.Core.List.{_++_};
 ghost use Prim.Native.Nat.{_*_};
 ghost use lib.ListN.{length, drop};
-ghost use Rattle.index.specs.Headers.{entrySize, headersIn, indexBytes};
-ghost use Rattle.index.specs.States.{fresh, Walkable};
+ghost use Rattle.headers.specs.Headers.{entrySize, headersIn, indexBytes};
+ghost use Rattle.headers.specs.States.{fresh, Walkable};
 ghost use Rattle.index.specs.Outcome.{Indexable, Indexes};
 
 // A refusal's number or 0, how many headers there are, and how many bytes their index has, or would have.

@@ -1,16 +1,16 @@
 // The walk over the finished events: a header is written when the next one opens, or at the end.
-use crate::entry::ENTRY_SIZE;
-use crate::entry::put_entry;
-use crate::state::IndexState;
-use crate::state::kind_at;
-use crate::state::note;
-use crate::state::opens_header;
+use headers::state::IndexState;
+use headers::state::kind_at;
+use headers::state::note;
+use headers::state::opens_header;
+use index_entries::entry::ENTRY_SIZE;
+use index_entries::entry::put_entry;
 ghost use mathlib.Core.Path.{_≡_};
 ghost use mathlib.Core.List.{_++_};
 ghost use Prim.Native.Nat.{_*_};
 ghost use lib.ListN.{length, drop};
-ghost use Rattle.index.specs.Headers.{opensHeader, entrySize, kindsFrom, headersIn, indexBytes};
-ghost use Rattle.index.specs.States.{stateBehind, Finishable, Finished, Walkable};
+ghost use Rattle.headers.specs.Headers.{opensHeader, entrySize, kindsFrom, headersIn, indexBytes};
+ghost use Rattle.headers.specs.States.{stateBehind, Finishable, Finished, Walkable};
 
 // The header that the state is in is written as entry k, if one ends here. Answers how many entries there are then.
 fn finish(index: &mut [u8], k: usize, ends: bool, state: IndexState) -> usize

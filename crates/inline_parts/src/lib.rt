@@ -1,3 +1,2 @@
 // What a turn in an inline table is made of. Each function is proved equal to its rule.
-pub mod actions;
 pub mod parts;

@@ -1,6 +1,6 @@
 // What an inline table is made of: its keys, its last comma, and the reports of what it does not want.
-use crate::actions::encoding_at;
-use crate::actions::wanted_in;
+use inline_actions::encoding_at;
+use inline_actions::wanted_in;
 use key_dots::dots::opt_dot_keys;
 use output::emitting::Counts;
 use output::emitting::Walk;

@@ -1,5 +1,5 @@
 -- Turns in inline tables, a token at a time. Assumes nothing.
-use mathlib.Core.Path.{_≡_, refl, sym, subst, _∙_}
+use mathlib.Core.Path.{_≡_, refl, ap, sym, subst, _∙_}
 use mathlib.Core.List.{List}
 use Prim.Native.Nat.{ℕ, suc, _-_, _≤_}
 use native.Mathlib.Omega.{arith}
@@ -26,6 +26,7 @@ use Rattle.output.specs.WalkLaws.{at-token}
 use Rattle.scalars.specs.ScalarWalks.{Starts}
 use Rattle.array_parts.specs.Turning.{Turned}
 use Rattle.inline_turns.specs.declared.table_turn.TableTurn.{TableTurn}
+use Rattle.array_parts.specs.declared.turn.Turn.{Turn}
 
 -- inline tables: the token that was read, by the action of the state at its kind
 pub table-at : (s : List ℕ) (c d : Cursor) (t : Token) → Took s c t d → (x y : Action) (p : Progress) → x ≡ actionOf (p .state) (t .kind) → x ≡ y → (all : List Tok) (o : Bufs) (head : Place) (opened : ℕ) (nest : Nest) (loop : Progress → List Tok → Out)
@@ -77,7 +78,9 @@ opened-left s base opened h = omega (arith, h, all-length s base)
 pub brace-left : {s : List ℕ} {c d : Cursor} {t : Token} (base : ℕ) → Took s c t d → c .at ≡ length (allTokens s base) - suc (length (tokensAt s d))
 brace-left {s} {d = d} base k = omega (arith, k .left, k .on, all-length s base, left-length s d)
 
--- an answer that is made by a function
+-- an answer that is made by functions
 module _ {s : List ℕ} {c : Cursor} {o : Bufs} {a b : List ℕ} where
-  pub table-as : {rule : Nest → (Progress → List Tok → Out) → Out} {r r' : TableTurn} → r ≡ r' → Turned Progress s rule c o a b (r' .cur) (r' .n) (r' .progress) (r' .next) → Turned Progress s rule c o a b (r .cur) (r .n) (r .progress) (r .next)
-  table-as {rule} e x = subst (λ (z : TableTurn). Turned Progress s rule c o a b (z .cur) (z .n) (z .progress) (z .next)) (sym e) x
+  pub table-as : {rule : Nest → (Progress → List Tok → Out) → Out} {r : TableTurn} {t t' : Turn} {p : Progress} → r ≡ record { turn = t; progress = p } → t ≡ t' → Turned Progress s rule c o a b (t' .cur) (t' .n) p (t' .next)
+      → Turned Progress s rule c o a b (r .turn .cur) (r .turn .n) (r .progress) (r .turn .next)
+  table-as {rule} {p = p} e f x =
+      subst (λ (z : TableTurn). Turned Progress s rule c o a b (z .turn .cur) (z .turn .n) (z .progress) (z .turn .next)) (sym (e ∙ ap (λ (t : Turn). record { turn = t; progress = p }) f)) x

@@ -1,13 +1,14 @@
 // Inline tables: one turn.
 use crate::table_turn::TableTurn;
-use crate::table_turn::again;
-use crate::table_turn::opening;
-use crate::table_turn::over;
 use crate::table_turn::read;
+use crate::table_turn::unread;
 use array_parts::brackets::without_open;
 use array_parts::turn::Next;
+use array_parts::turn::again;
+use array_parts::turn::opening;
+use array_parts::turn::over;
 use array_parts::turn::unclosed;
-use inline_parts::actions::action_at;
+use inline_actions::action_at;
 use inline_parts::parts::missing;
 use inline_parts::parts::refuse;
 use inline_parts::parts::table_dot;
@@ -48,7 +49,7 @@ ghost use Rattle.rules.specs.Out.{span};
 ghost use Rattle.rules.specs.InlineTable.{inlineTableTurn};
 ghost use Rattle.output.specs.Pour.{bufs};
 ghost use Rattle.array_parts.specs.Turning.{Turned};
-ghost use Rattle.inline_parts.specs.Parts.{actionTable};
+ghost use Rattle.inline_actions.specs.Actions.{actionTable};
 
 // One turn in the inline table that `head` opened, of which `opened` is the first record behind it. The table of actions is lent, since the turns of a
 // loop share one.
@@ -64,7 +65,7 @@ pub fn inline_table_turn(
     errors: &mut [u32],
 ) -> TableTurn
     requires { ⌜ Good (now s) c × (now actions ≡ actionTable) × (opened ≤ count (now s)) ⌝ }
-    ensures { λ r. ⌜ Turned Progress (now (s .entry)) (λ nest loop. inlineTableTurn (span (head .start) (head .end)) (count (now (s .entry)) - opened) nest loop p (tokensAt (now (s .entry)) c)) c (bufs (now (events .entry)) (now (errors .entry)) m) (now (events .exit)) (now (errors .exit)) (r .cur) (r .n) (r .progress) (r .next) ⌝ }
+    ensures { λ r. ⌜ Turned Progress (now (s .entry)) (λ nest loop. inlineTableTurn (span (head .start) (head .end)) (count (now (s .entry)) - opened) nest loop p (tokensAt (now (s .entry)) c)) c (bufs (now (events .entry)) (now (errors .entry)) m) (now (events .exit)) (now (errors .exit)) (r .turn .cur) (r .turn .n) (r .progress) (r .turn .next) ⌝ }
 {
     let step = c.next(s);
     let Step::Got(t, past) = step else {
@@ -78,7 +79,7 @@ pub fn inline_table_turn(
             events,
             errors,
         );
-        return over(Walk { cur: c, n }, p);
+        return unread(over(Walk { cur: c, n }), p);
     };
     let k = t.kind;
     let state = p.state;
@@ -86,22 +87,22 @@ pub fn inline_table_turn(
     match action {
         Action::Whitespace => {
             let n = emit(events, m, Event::Whitespace, t.start, t.end);
-            again(Walk { cur: past, n }, p)
+            unread(again(Walk { cur: past, n }), p)
         }
         Action::Comment => {
             let h = report_at(errors, m, COMMENT_IN_INLINE_TABLE, NOTHING, head, t);
             let w = on_comment(s, t, past, h, events, errors);
-            again(w, p)
+            unread(again(w), p)
         }
         Action::Newline => {
             let i = report_at(errors, m, NEWLINE_IN_INLINE_TABLE, NOTHING, head, t);
             let n = emit(events, i, Event::Newline, t.start, t.end);
-            again(Walk { cur: past, n }, p)
+            unread(again(Walk { cur: past, n }), p)
         }
         Action::Eof => {
             let i = report_at(errors, m, UNCLOSED_INLINE_TABLE, CLOSE_CURLY, head, t);
             let n = emit(events, i, Event::InlineTableClose, t.start, t.start);
-            over(Walk { cur: past, n }, p)
+            unread(over(Walk { cur: past, n }), p)
         }
         Action::ValueSep => {
             let n = emit(events, m, Event::ValueSep, t.start, t.end);
@@ -110,85 +111,97 @@ pub fn inline_table_turn(
                 state: State::NeedsKey,
                 empty,
             };
-            again(Walk { cur: past, n }, q)
+            unread(again(Walk { cur: past, n }), q)
         }
         Action::ExtraComma => {
             let n = refuse(m, EXTRA_COMMA_IN_INLINE_TABLE, p, head, t, events, errors);
-            again(Walk { cur: past, n }, p)
+            unread(again(Walk { cur: past, n }), p)
         }
         Action::EmptyKey => {
             let i = empty_key(events, m, t.start);
             let n = emit(events, i, Event::KeyValSep, t.start, t.end);
-            read(Walk { cur: past, n }, State::NeedsValue)
+            read(again(Walk { cur: past, n }), State::NeedsValue)
         }
         Action::KeyValSep => {
             let n = emit(events, m, Event::KeyValSep, t.start, t.end);
-            read(Walk { cur: past, n }, State::NeedsValue)
+            read(again(Walk { cur: past, n }), State::NeedsValue)
         }
         Action::ExtraAssignment => {
             let n = refuse(m, EXTRA_ASSIGNMENT, p, head, t, events, errors);
-            again(Walk { cur: past, n }, p)
+            unread(again(Walk { cur: past, n }), p)
         }
         Action::KeylessArray => {
             let h = refuse(m, MISSING_KEY_IN_INLINE_TABLE, p, head, t, events, errors);
             let w = ignore_to_value_close(s, past, h, Bracket::Square, events, errors);
-            again(w, p)
+            unread(again(w), p)
         }
         Action::KeylessTable => {
             let h = refuse(m, MISSING_KEY_IN_INLINE_TABLE, p, head, t, events, errors);
             let w = ignore_to_value_close(s, past, h, Bracket::Curly, events, errors);
-            again(w, p)
+            unread(again(w), p)
         }
         Action::UnassignedArray => {
             let n = missing(m, MISSING_ASSIGNMENT, p, head, t, errors);
-            opening(Walk { cur: past, n }, Next::OpenArray(t))
+            read(
+                opening(Walk { cur: past, n }, Next::OpenArray(t)),
+                State::NeedsComma,
+            )
         }
         Action::UnassignedTable => {
             let n = missing(m, MISSING_ASSIGNMENT, p, head, t, errors);
-            opening(Walk { cur: past, n }, Next::OpenTable(t))
+            read(
+                opening(Walk { cur: past, n }, Next::OpenTable(t)),
+                State::NeedsComma,
+            )
         }
         Action::UnassignedScalar => {
             let h = missing(m, MISSING_ASSIGNMENT, p, head, t, errors);
             let w = on_scalar(s, t, past, h, events, errors);
-            read(w, State::NeedsComma)
+            read(again(w), State::NeedsComma)
         }
-        Action::Array => opening(Walk { cur: past, n: m }, Next::OpenArray(t)),
-        Action::Table => opening(Walk { cur: past, n: m }, Next::OpenTable(t)),
+        Action::Array => read(
+            opening(Walk { cur: past, n: m }, Next::OpenArray(t)),
+            State::NeedsComma,
+        ),
+        Action::Table => read(
+            opening(Walk { cur: past, n: m }, Next::OpenTable(t)),
+            State::NeedsComma,
+        ),
         Action::Scalar => {
             let w = on_scalar(s, t, past, m, events, errors);
-            read(w, State::NeedsComma)
+            read(again(w), State::NeedsComma)
         }
         Action::Close => {
             let at = c.at;
             let i = trailing_comma(at, opened, m, p, head, t, errors);
             let n = emit(events, i, Event::InlineTableClose, t.start, t.end);
-            over(Walk { cur: past, n }, p)
+            unread(over(Walk { cur: past, n }), p)
         }
         Action::InvalidElement => {
             let n = refuse(m, INVALID_INLINE_TABLE_ELEMENT, p, head, t, events, errors);
-            again(Walk { cur: past, n }, p)
+            unread(again(Walk { cur: past, n }), p)
         }
         Action::ArrayWithoutOpen => {
             let n = without_open(m, Bracket::Square, t, events, errors);
-            read(Walk { cur: past, n }, State::NeedsComma)
+            read(again(Walk { cur: past, n }), State::NeedsComma)
         }
         Action::Key => {
             let w = table_key(s, t, past, m, events, errors);
-            read(w, State::NeedsEquals)
+            read(again(w), State::NeedsEquals)
         }
         Action::DotKey => {
             let w = table_dot(s, t, past, m, events, errors);
-            read(w, State::NeedsEquals)
+            read(again(w), State::NeedsEquals)
         }
         Action::KeyWithoutComma => {
             let h = missing(m, MISSING_COMMA_IN_INLINE_TABLE, p, head, t, errors);
             let w = table_key(s, t, past, h, events, errors);
-            read(w, State::NeedsEquals)
+            read(again(w), State::NeedsEquals)
         }
         Action::DotKeyWithoutComma => {
             let h = missing(m, MISSING_COMMA_IN_INLINE_TABLE, p, head, t, errors);
             let w = table_dot(s, t, past, h, events, errors);
-            read(w, State::NeedsEquals)
+            read(again(w), State::NeedsEquals)
         }
     }
 }

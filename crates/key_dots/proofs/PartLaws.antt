@@ -1,4 +1,4 @@
--- The rules of whitespace, dots and parts, a token at a time. Assumes nothing.
+-- The rules of dots and parts, a token at a time. Assumes nothing.
 use mathlib.Core.Path.{_≡_, refl, ap, sym, subst, _∙_}
 use mathlib.Core.Bool.{true, false, false≢true}
 use mathlib.Core.List.{List, [], _∷_}
@@ -20,29 +20,7 @@ use Rattle.output.specs.Walks.{run, endOf, Goes}
 use Rattle.output.specs.WalkLaws.{Looped, at-token, then-on, goes-rest}
 use Rattle.key_dots.specs.SpaceLaws.{dots-split}
 
--- no whitespace, and no dot, at the start of the list
-no-space : (k : Kind) (a b : ℕ) (ts : List Tok) → startsWith Whitespace (tok k a b ∷ ts) ≡ false → optWhitespace (tok k a b ∷ ts) ≡ done (tok k a b ∷ ts)
-no-space Dot a b ts e = refl
-no-space Equals a b ts e = refl
-no-space Comma a b ts e = refl
-no-space LeftSquareBracket a b ts e = refl
-no-space RightSquareBracket a b ts e = refl
-no-space LeftCurlyBracket a b ts e = refl
-no-space RightCurlyBracket a b ts e = refl
-no-space Whitespace a b ts e = absurd (false≢true (sym e))
-no-space Comment a b ts e = refl
-no-space Newline a b ts e = refl
-no-space LiteralString a b ts e = refl
-no-space BasicString a b ts e = refl
-no-space MlLiteralString a b ts e = refl
-no-space MlBasicString a b ts e = refl
-no-space Atom a b ts e = refl
-no-space Eof a b ts e = refl
-
-space-none : (ts : List Tok) → startsWith Whitespace ts ≡ false → optWhitespace ts ≡ done ts
-space-none [] e = refl
-space-none (tok k a b ∷ ts) e = no-space k a b ts e
-
+-- no dot at the start of the list
 no-dot : (k : Kind) (a b : ℕ) (ts : List Tok) → startsWith Dot (tok k a b ∷ ts) ≡ false → (dotKeys (tok k a b ∷ ts) ≡ done (tok k a b ∷ ts)) × (dotKeysValid (tok k a b ∷ ts) ≡ true)
 no-dot Dot a b ts e = absurd (false≢true (sym e))
 no-dot Equals a b ts e = (refl, refl)
@@ -66,9 +44,6 @@ dots-none [] e = (refl, refl)
 dots-none (tok k a b ∷ ts) e = no-dot k a b ts e
 
 module _ (s : List ℕ) (c : Cursor) (all : List Tok) (o : Bufs) where
-  pub space-out : startsWith Whitespace (tokensAt s c) ≡ false → run all (optWhitespace (tokensAt s c)) o ≡ run all (done (tokensAt s c)) o
-  space-out e = ap (λ (r : Out). run all r o) (space-none (tokensAt s c) e)
-
   pub dot-out : startsWith Dot (tokensAt s c) ≡ false → run all (dotKeys (tokensAt s c)) o ≡ run all (done (tokensAt s c)) o
   dot-out e = ap (λ (r : Out). run all r o) (dots-none (tokensAt s c) e .0)
 
@@ -81,11 +56,6 @@ dot-valid s c e = dots-none (tokensAt s c) e .1
 
 -- a token of the kind that was asked for
 module _ (s : List ℕ) (c d : Cursor) (t : Token) where
-  pub space-at : (t .kind ≡ Whitespace) × Took s c t d → (all : List Tok) (o : Bufs) → run all (optWhitespace (tokensAt s c)) o ≡ run all (receiver.whitespace (t .start) (t .end) ▹ done (tokensAt s d)) o
-  space-at k all o =
-      ap (λ (ts : List Tok). run all (optWhitespace ts) o) (k .1 .seen)
-      ∙ ap (λ (j : Kind). run all (optWhitespace (tok j (t .start) (t .end) ∷ tokensAt s d)) o) (k .0)
-
   pub dot-at : (t .kind ≡ Dot) × Took s c t d → (all : List Tok) (o : Bufs) → run all (dotKeys (tokensAt s c)) o ≡ run all (receiver.keySep (t .start) (t .end) ▹ afterDot (tokensAt s d) (t .end)) o
   dot-at k all o =
       ap (λ (ts : List Tok). run all (dotKeys ts) o) (k .1 .seen)

@@ -7,8 +7,7 @@ use Rattle.token.specs.Tokens.{Good, Took}
 use Rattle.token.specs.declared.kind.Kind.the-variants.{Dot}
 use Rattle.token.specs.declared.cursor.Token.{Token}
 use Rattle.token.specs.declared.cursor.Cursor.{Cursor}
-use Rattle.rules.specs.Out.{Out, Item, report, found, afterFound}
-use Rattle.rules.specs.Keys.{lastSignificant}
+use Rattle.rules.specs.Out.{Out}
 use Rattle.output.specs.declared.emitting.Walk.{Walk}
 use Rattle.key_dots.specs.declared.dots.KeyWalk.{KeyWalk}
 use Rattle.output.specs.Pour.{Bufs}
@@ -28,7 +27,3 @@ pub record ReadDot (s : List ℕ) (t : Token) (c : Cursor) : Type 0 where
   pub good : Good s from
   pub took : Took s from t c
   pub dot : t .kind ≡ Dot
-
--- the report where the list ends before what is expected
-abbrev pub nothingLeft : ℕ → ℕ → Item
-nothingLeft m x = report m x (found lastSignificant) (afterFound lastSignificant)

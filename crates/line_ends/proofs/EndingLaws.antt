@@ -1,4 +1,4 @@
--- The rules of the ends of lines and of the list, a token at a time. Assumes nothing.
+-- The rule of the ends of lines, a token at a time. Assumes nothing.
 use mathlib.Core.Path.{_≡_, refl, ap, sym, _∙_}
 use mathlib.Core.List.{List, _∷_}
 use Prim.Native.Nat.{ℕ}
@@ -10,10 +10,10 @@ use Rattle.token.specs.declared.cursor.Cursor.{Cursor}
 use Rattle.rules.specs.declared.skipping.InLine.{InLine}
 use Rattle.rules.specs.Out.{done, _▹_}
 use Rattle.rules.specs.Receiver as receiver
-use Rattle.rules.specs.Skipping.{inLine, leftover, leftoverStep, ending, endingStep, wsCommentNewline, eof, eofStep}
+use Rattle.rules.specs.Skipping.{inLine, ending, endingStep, wsCommentNewline}
 use Rattle.output.specs.Pour.{Bufs}
 use Rattle.output.specs.Walks.{run}
-use Rattle.output.specs.WalkLaws.{rule-at, at-token}
+use Rattle.output.specs.WalkLaws.{at-token}
 
 module _ (s : List ℕ) (c d : Cursor) (t : Token) (k : Took s c t d) where
   -- the end of a line begins at its first token
@@ -25,12 +25,6 @@ module _ (s : List ℕ) (c d : Cursor) (t : Token) (k : Took s c t d) where
   newline-ends q = ap wsCommentNewline (k .seen) ∙ ap (λ (j : Kind). wsCommentNewline (tok j (t .start) (t .end) ∷ tokensAt s d)) q
 
   module _ (x y : InLine) (p : x ≡ inLine (t .kind)) (q : x ≡ y) where
-    pub eof-at : eof (tokensAt s c) ≡ eofStep y (t .start) (t .end) (tokensAt s d)
-    eof-at = rule-at s c d t eof inLine (λ z. eofStep z (t .start) (t .end) (tokensAt s d)) x y k refl p q
-
     module _ (all : List Tok) (o : Bufs) where
-      pub leftover-at : run all (leftover (tokensAt s c)) o ≡ run all (leftoverStep y (t .start) (t .end) (leftover (tokensAt s d))) o
-      leftover-at = at-token all o s c d t leftover inLine (λ z. leftoverStep z (t .start) (t .end) (leftover (tokensAt s d))) x y k refl p q
-
       pub ending-at : (first : ℕ) → run all (ending (tokensAt s c) first) o ≡ run all (endingStep y first (t .start) (t .end) (tokensAt s d) (ending (tokensAt s d) first)) o
       ending-at first = at-token all o s c d t (λ ts. ending ts first) inLine (λ z. endingStep z first (t .start) (t .end) (tokensAt s d) (ending (tokensAt s d) first)) x y k refl p q

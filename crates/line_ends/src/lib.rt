@@ -1,3 +1,2 @@
-// The ends of lines, and of the list. Each function is proved equal to its rule.
-pub mod eof;
+// The ends of lines.
 pub mod line_end;

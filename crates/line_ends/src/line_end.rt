@@ -1,4 +1,5 @@
 // The ends of lines.
+use classes::skipping::in_line;
 use output::emitting::Counts;
 use output::emitting::Walk;
 use output::emitting::emit;
@@ -7,7 +8,6 @@ use output::expected::NEWLINE_OR_COMMENT;
 use output::message::UNEXPECTED_KEY_OR_VALUE;
 use rules::event::Event;
 use rules::skipping::InLine;
-use rules::skipping::in_line;
 use skip_lines::skipping::ignore_to_newline;
 use skip_lines::skipping::on_comment;
 use token::cursor::Cursor;

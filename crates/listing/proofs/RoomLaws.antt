@@ -24,7 +24,7 @@ use Rattle.rules.specs.Answer.{eventSize, errorSize, Outcome, filled, refusalBy
 use Rattle.bounds.specs.Most.{mostEvents}
 use Rattle.bounds.specs.Bounds.{more-events}
 use Rattle.bounds.specs.CountLaws.{room-events}
-use Rattle.entries.specs.Answers.{Answers}
+use Rattle.entry_steps.specs.Answers.{Answers}
 use Rattle.rules.proofs.BufferLaws.{word-in}
 use Rattle.rules.proofs.OutcomeLaws.{events-sized}
 use Rattle.listing.specs.Named.{Named, AllNamed}

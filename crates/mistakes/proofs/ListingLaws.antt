@@ -11,17 +11,18 @@ use Rattle.rules.specs.Lines.{lineOf}
 use Rattle.rules.specs.Answer.{errorSize, filled}
 use Rattle.line_numbers.specs.declared.points.LinePoint.{LinePoint}
 use Rattle.line_numbers.specs.Points.{Counted, Numbered}
-use Rattle.entries.proofs.FillLaws.{Sized}
-use Rattle.mistakes.specs.declared.pieces.Piece.{Piece}
-use Rattle.mistakes.specs.declared.pieces.Found.{Found}
+use Rattle.filling.specs.FillLaws.{Sized}
+use Rattle.pieces.specs.declared.pieces.Piece.{Piece}
+use Rattle.pieces.specs.declared.pieces.Found.{Found}
 use Rattle.mistakes.specs.declared.listing.Noted.{Noted}
-use Rattle.mistakes.specs.Messages.{expectedBy}
-use Rattle.mistakes.specs.Pieces.{eventsFrom, pieces}
-use Rattle.mistakes.specs.Mistakes.{errorAt, errorsFrom, startOf, Mistake, reported, silent, goesBefore, accountsFor, judged, placed, allReported, merged, mistakesIn, wordsOf, allWords}
-use Rattle.mistakes.specs.Sheets.{Sheet, putAt, putOne, putAll}
-use Rattle.mistakes.specs.Finding.{eventsLeft, Finds, first, none}
-use Rattle.mistakes.specs.Steps.{errorsLeft, accounted, Passes, Notes}
-use Rattle.mistakes.proofs.RecordLaws.{judged-told, judged-silent}
+use Rattle.pieces.specs.Messages.{expectedBy}
+use Rattle.pieces.specs.Pieces.{eventsFrom, pieces}
+use Rattle.mistake_rules.specs.Mistakes.{errorAt, errorsFrom, startOf, Mistake, reported, silent, goesBefore, accountsFor, judged, placed, allReported, merged, mistakesIn, wordsOf, allWords}
+use Rattle.mistake_rules.specs.Sheets.{Sheet, putAt, putOne, putAll}
+use Rattle.pieces.specs.Finding.{eventsLeft, Finds, first, none}
+use Rattle.mistake_steps.specs.Steps.{errorsLeft, accounted, Passes}
+use Rattle.mistakes.specs.Notes.{Notes}
+use Rattle.mistake_steps.proofs.RecordLaws.{judged-told, judged-silent}
 use Rattle.mistakes.proofs.SheetLaws.{put-append, put-filled}
 
 -- the piece is accounted for, and nothing is put

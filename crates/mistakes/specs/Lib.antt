@@ -1,8 +1,1 @@
-pub mod Messages
-pub mod Pieces
-pub mod Mistakes
-pub mod Sheets
-pub mod Finding
-pub mod Steps
-pub mod Outcome
-pub mod Promises
+pub mod Notes

@@ -1,14 +1,9 @@
 // The list of mistakes: the error records of a run, and what its events show that no record accounts for.
 pub mod listing;
-pub mod messages;
-pub mod pieces;
-pub mod putting;
-pub mod records;
-pub mod sorts;
-pub mod theorems;
 
 use crate::listing::list_mistakes;
 use checks::check::check;
+use mistake_rules::answer::Listed;
 use rules::answer::Answer;
 use rules::answer::ERROR_WORDS;
 use rules::answer::EVENT_WORDS;
@@ -17,17 +12,10 @@ ghost use mathlib.Core.Path.{_≡_};
 ghost use Rattle.token.specs.declared.checked.Checked.{Checked};
 ghost use Rattle.token.specs.Tokens.{allTokens};
 ghost use Rattle.token.specs.Check.{checked};
-ghost use Rattle.mistakes.specs.Outcome.{listedHeld, Lists};
+ghost use Rattle.mistake_rules.specs.Outcome.{listedHeld, Lists};
 
 // The refusal's number: the mistakes do not fit.
 pub const NO_ROOM_FOR_MISTAKES: u32 = 14;
-
-// The refusal's number (0 if none), its place, and how many mistakes there are.
-pub struct Listed {
-    pub refusal: u32,
-    pub place: usize,
-    pub mistakes: usize,
-}
 
 fn unlisted(refusal: u32, place: usize) -> Listed
     ensures { λ r. ⌜ r ≡ record { refusal = refusal; place = place; mistakes = 0 } ⌝ }

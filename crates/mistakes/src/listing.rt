@@ -1,15 +1,15 @@
 // The listing: piece by piece, with the error records that go before each.
-use crate::messages::expected_by;
-use crate::pieces::Found;
-use crate::pieces::Piece;
-use crate::pieces::next_piece;
-use crate::putting::put_mistake;
-use crate::putting::put_records;
-use crate::records::is_accounted;
-use crate::records::passed_by;
 use line_numbers::points::LinePoint;
 use line_numbers::points::first_line;
 use line_numbers::points::line_from;
+use mistake_steps::putting::put_mistake;
+use mistake_steps::putting::put_records;
+use mistake_steps::records::is_accounted;
+use mistake_steps::records::passed_by;
+use pieces::messages::expected_by;
+use pieces::pieces::Found;
+use pieces::pieces::Piece;
+use pieces::pieces::next_piece;
 ghost use mathlib.Core.Path.{_≡_};
 ghost use Prim.Native.Nat.{_+_, _*_, _<_, _≤_};
 ghost use lib.ListN.{length};
@@ -19,9 +19,10 @@ ghost use Rattle.token.specs.Tokens.{allTokens};
 ghost use Rattle.token.specs.Laid.{Laid};
 ghost use Rattle.rules.specs.Answer.{eventSize, errorSize, filled};
 ghost use Rattle.line_numbers.specs.Points.{Counted};
-ghost use Rattle.mistakes.specs.Mistakes.{mistakesIn, allWords};
-ghost use Rattle.mistakes.specs.Sheets.{Sheet};
-ghost use Rattle.mistakes.specs.Steps.{countless, Notes};
+ghost use Rattle.mistake_rules.specs.Mistakes.{mistakesIn, allWords};
+ghost use Rattle.mistake_rules.specs.Sheets.{Sheet};
+ghost use Rattle.mistake_steps.specs.Steps.{countless};
+ghost use Rattle.mistakes.specs.Notes.{Notes};
 
 // How many mistakes there are so far, and the point up to which lines are counted.
 pub struct Noted {

@@ -35,32 +35,32 @@ further-from (Next.OpenArray t) b c d l h = omega (arith, l, h)
 further-from (Next.OpenTable t) b c d l h = omega (arith, l, h)
 
 module _ {s : List ℕ} {head : Place} {w₀ w : ArrayState} {c cur : Cursor} {o₀ o : Bufs} (inv : Running s head w₀ c o₀ w o cur)
-    {a b : List ℕ} (r : ArrayTurn) (t : Turned ArrayState s (λ nest loop. arrayTurn head nest loop w (tokensAt s cur)) cur o a b (r .cur) (r .n) (r .state) (r .next)) where
-  pub again-moved : r .next ≡ Next.Again → cur .at + 1 ≤ r .cur .at
-  again-moved e = subst (λ (x : Next). Further x cur (r .cur)) e (t .on)
+    {a b : List ℕ} (r : ArrayTurn) (t : Turned ArrayState s (λ nest loop. arrayTurn head nest loop w (tokensAt s cur)) cur o a b (r .turn .cur) (r .turn .n) (r .state) (r .turn .next)) where
+  pub again-moved : r .turn .next ≡ Next.Again → cur .at + 1 ≤ r .turn .cur .at
+  again-moved e = subst (λ (x : Next). Further x cur (r .turn .cur)) e (t .on)
 
-  pub running-next : r .next ≡ Next.Again → Running s head w₀ c o₀ (r .state) (bufs a b (r .n)) (r .cur)
+  pub running-next : r .turn .next ≡ Next.Again → Running s head w₀ c o₀ (r .state) (bufs a b (r .turn .n)) (r .turn .cur)
   running-next e =
       record { is = λ nest k h. turn-next nest (λ n. arrayTurn head n) (λ f g v. refl) w (inv .is nest k h) (r .state) t e; good = t .good; on = omega (arith, inv .on, again-moved e); base = t .base ∙ inv .base }
 
-  pub ran : Wants (r .next) (r .state) → Ran s head w₀ c o₀ a b r
+  pub ran : Wants (r .turn .next) (r .state) → Ran s head w₀ c o₀ a b r
   ran q =
       record {
         is = λ nest k h.
             let i = inv .is nest k h in
             record {
               fuel = i .fuel - 1;
-              enough = enough-by nest k i (r .next) (t .on);
-              same = sym (turned nest (λ n. arrayTurn head n) (λ f g v. refl) w i (r .state) t (r .next) refl);
+              enough = enough-by nest k i (r .turn .next) (t .on);
+              same = sym (turned nest (λ n. arrayTurn head n) (λ f g v. refl) w i (r .state) t (r .turn .next) refl);
             };
         good = t .good;
-        on = further-from (r .next) c cur (r .cur) (inv .on) (t .on);
+        on = further-from (r .turn .next) c cur (r .turn .cur) (inv .on) (t .on);
         base = t .base ∙ inv .base;
         wants = q;
       }
     where
-      enough-by : (nest : Nest) (k : ℕ) (i : Turns s (λ j. turns (arrayTurn head nest) j w (tokensAt s cur)) (turns (arrayTurn head nest) k w₀ (tokensAt s c)) o o₀ cur c) (x : Next) → Further x cur (r .cur) → Enough x (length (tokensAt s (r .cur))) (i .fuel - 1)
+      enough-by : (nest : Nest) (k : ℕ) (i : Turns s (λ j. turns (arrayTurn head nest) j w (tokensAt s cur)) (turns (arrayTurn head nest) k w₀ (tokensAt s c)) o o₀ cur c) (x : Next) → Further x cur (r .turn .cur) → Enough x (length (tokensAt s (r .turn .cur))) (i .fuel - 1)
       enough-by nest k i Next.Over h = tt
-      enough-by nest k i Next.Again h = fewer-left (arrayTurn head nest) (λ f g v. refl) w i (r .cur) h (t .good)
-      enough-by nest k i (Next.OpenArray u) h = fewer-left (arrayTurn head nest) (λ f g v. refl) w i (r .cur) h (t .good)
-      enough-by nest k i (Next.OpenTable u) h = fewer-left (arrayTurn head nest) (λ f g v. refl) w i (r .cur) h (t .good)
+      enough-by nest k i Next.Again h = fewer-left (arrayTurn head nest) (λ f g v. refl) w i (r .turn .cur) h (t .good)
+      enough-by nest k i (Next.OpenArray u) h = fewer-left (arrayTurn head nest) (λ f g v. refl) w i (r .turn .cur) h (t .good)
+      enough-by nest k i (Next.OpenTable u) h = fewer-left (arrayTurn head nest) (λ f g v. refl) w i (r .turn .cur) h (t .good)

@@ -116,46 +116,46 @@ module _ {s : List ℕ} {levels : ℕ} {start : Out} {o₀ : Bufs} {cur₀ : Cur
   abbrev Loop : ℕ → ArrayState → List Tok → Out
   Loop = turns (arrayTurn (span a b) (onOpen left))
 
-  abbrev onward : Left s (Loop (inv .fuel) w (tokensAt s cur)) o (λ j. goOn (r .next) (onOpen left) (Loop j) (r .state) (tokensAt s (r .cur))) (bufs ev er (r .n)) (r .next) cur (r .cur)
+  abbrev onward : Left s (Loop (inv .fuel) w (tokensAt s cur)) o (λ j. goOn (r .turn .next) (onOpen left) (Loop j) (r .state) (tokensAt s (r .turn .cur))) (bufs ev er (r .turn .n)) (r .turn .next) cur (r .turn .cur)
   onward = y .is (onOpen left) (inv .fuel) (inv .enough)
 
   -- what is next, with those that wait, gives what the rules give from the start
-  here : (x : Next) → r .next ≡ x → run All (resume (inv .frames) (goOn x (onOpen left) (Loop (onward .fuel)) (r .state) (tokensAt s (r .cur)))) (bufs ev er (r .n)) ≡ run All start o₀
+  here : (x : Next) → r .turn .next ≡ x → run All (resume (inv .frames) (goOn x (onOpen left) (Loop (onward .fuel)) (r .state) (tokensAt s (r .turn .cur)))) (bufs ev er (r .turn .n)) ≡ run All start o₀
   here x e = resume-same (inv .frames) All _ _ _ _ now ∙ inv .same
     where
-      back : run All (Loop (inv .fuel) w (tokensAt s cur)) o ≡ run All (goOn (r .next) (onOpen left) (Loop (onward .fuel)) (r .state) (tokensAt s (r .cur))) (bufs ev er (r .n))
-      back = subst (λ (base : ℕ). run (allTokens s base) (Loop (inv .fuel) w (tokensAt s cur)) o ≡ run (allTokens s base) (goOn (r .next) (onOpen left) (Loop (onward .fuel)) (r .state) (tokensAt s (r .cur))) (bufs ev er (r .n))) (inv .base) (onward .same)
+      back : run All (Loop (inv .fuel) w (tokensAt s cur)) o ≡ run All (goOn (r .turn .next) (onOpen left) (Loop (onward .fuel)) (r .state) (tokensAt s (r .turn .cur))) (bufs ev er (r .turn .n))
+      back = subst (λ (base : ℕ). run (allTokens s base) (Loop (inv .fuel) w (tokensAt s cur)) o ≡ run (allTokens s base) (goOn (r .turn .next) (onOpen left) (Loop (onward .fuel)) (r .state) (tokensAt s (r .turn .cur))) (bufs ev er (r .turn .n))) (inv .base) (onward .same)
 
-      now : run All (goOn x (onOpen left) (Loop (onward .fuel)) (r .state) (tokensAt s (r .cur))) (bufs ev er (r .n)) ≡ run All (Loop (inv .fuel) w (tokensAt s cur)) o
-      now = ap (λ (z : Next). run All (goOn z (onOpen left) (Loop (onward .fuel)) (r .state) (tokensAt s (r .cur))) (bufs ev er (r .n))) (sym e) ∙ sym back
+      now : run All (goOn x (onOpen left) (Loop (onward .fuel)) (r .state) (tokensAt s (r .turn .cur))) (bufs ev er (r .turn .n)) ≡ run All (Loop (inv .fuel) w (tokensAt s cur)) o
+      now = ap (λ (z : Next). run All (goOn z (onOpen left) (Loop (onward .fuel)) (r .state) (tokensAt s (r .turn .cur))) (bufs ev er (r .turn .n))) (sym e) ∙ sym back
 
-  enough-at : (x : Next) → r .next ≡ x → Enough x (length (tokensAt s (r .cur))) (onward .fuel)
-  enough-at x e = subst (λ (z : Next). Enough z (length (tokensAt s (r .cur))) (onward .fuel)) e (onward .enough)
+  enough-at : (x : Next) → r .turn .next ≡ x → Enough x (length (tokensAt s (r .turn .cur))) (onward .fuel)
+  enough-at x e = subst (λ (z : Next). Enough z (length (tokensAt s (r .turn .cur))) (onward .fuel)) e (onward .enough)
 
-  moved : (x : Next) → r .next ≡ x → Further x cur (r .cur)
-  moved x e = subst (λ (z : Next). Further z cur (r .cur)) e (y .on)
+  moved : (x : Next) → r .turn .next ≡ x → Further x cur (r .turn .cur)
+  moved x e = subst (λ (z : Next). Further z cur (r .turn .cur)) e (y .on)
 
   fewer : (d : Cursor) → cur .at ≤ d .at → length (tokensAt s d) ≤ length (tokensAt s cur)
   fewer d h = omega (arith, h, left-length s cur, left-length s d)
 
-  pub stack-moved : r .next ≡ Next.Again → cur .at + 1 ≤ r .cur .at
+  pub stack-moved : r .turn .next ≡ Next.Again → cur .at + 1 ≤ r .turn .cur .at
   stack-moved e = moved Next.Again e
 
-  pub stack-over-moved : r .next ≡ Next.Over → cur .at ≤ r .cur .at
+  pub stack-over-moved : r .turn .next ≡ Next.Over → cur .at ≤ r .turn .cur .at
   stack-over-moved e = moved Next.Over e
 
-  pub stack-array-moved : (t : Token) → r .next ≡ Next.OpenArray t → cur .at + 1 ≤ r .cur .at
+  pub stack-array-moved : (t : Token) → r .turn .next ≡ Next.OpenArray t → cur .at + 1 ≤ r .turn .cur .at
   stack-array-moved t e = moved (Next.OpenArray t) e
 
-  pub stack-table-moved : (t : Token) → r .next ≡ Next.OpenTable t → cur .at + 1 ≤ r .cur .at
+  pub stack-table-moved : (t : Token) → r .turn .next ≡ Next.OpenTable t → cur .at + 1 ≤ r .turn .cur .at
   stack-table-moved t e = moved (Next.OpenTable t) e
 
   -- another turn
-  pub stack-next : r .next ≡ Next.Again → Stacked s levels start o₀ cur₀ starts ends depth left a b (r .state) (bufs ev er (r .n)) (r .cur)
+  pub stack-next : r .turn .next ≡ Next.Again → Stacked s levels start o₀ cur₀ starts ends depth left a b (r .state) (bufs ev er (r .turn .n)) (r .turn .cur)
   stack-next e =
       record {
         frames = inv .frames;
-        held = held-less (inv .frames) starts ends depth left _ _ (fewer (r .cur) (omega (arith, stack-moved e))) (inv .held);
+        held = held-less (inv .frames) starts ends depth left _ _ (fewer (r .turn .cur) (omega (arith, stack-moved e))) (inv .held);
         fuel = onward .fuel;
         enough = enough-at Next.Again e;
         same = here Next.Again e;
@@ -166,25 +166,25 @@ module _ {s : List ℕ} {levels : ℕ} {start : Out} {o₀ : Bufs} {cur₀ : Cur
       }
 
   -- the end of the outermost array
-  pub stack-over : r .next ≡ Next.Over → depth ≡ 0 → Nested s start cur₀ o₀ ev er (record { cur = r .cur; n = r .n; stopped = false })
+  pub stack-over : r .turn .next ≡ Next.Over → depth ≡ 0 → Nested s start cur₀ o₀ ev er (record { cur = r .turn .cur; n = r .turn .n; stopped = false })
   stack-over e h =
-      let q : run All (done (tokensAt s (r .cur))) (bufs ev er (r .n)) ≡ run All start o₀ = subst (λ (fs : List Frame). run All (resume fs (done (tokensAt s (r .cur)))) (bufs ev er (r .n)) ≡ run All start o₀) (no-frames (inv .frames) starts ends depth left _ (inv .held) h) (here Next.Over e) in
-      nested-from q (omega (arith, stack-over-moved e, inv .on)) (y .base ∙ inv .base) (nested-done (r .cur) ev er (r .n) (y .good))
+      let q : run All (done (tokensAt s (r .turn .cur))) (bufs ev er (r .turn .n)) ≡ run All start o₀ = subst (λ (fs : List Frame). run All (resume fs (done (tokensAt s (r .turn .cur)))) (bufs ev er (r .turn .n)) ≡ run All start o₀) (no-frames (inv .frames) starts ends depth left _ (inv .held) h) (here Next.Over e) in
+      nested-from q (omega (arith, stack-over-moved e, inv .on)) (y .base ∙ inv .base) (nested-done (r .turn .cur) ev er (r .turn .n) (y .good))
 
   -- the end of the innermost array: on with the nearest that waits
-  pub stack-pop : r .next ≡ Next.Over → (depth ≡ 0 → ⊥) → Stacked s levels start o₀ cur₀ starts ends (depth - 1) (left + 1) (getD starts (depth - 1) 0) (getD ends (depth - 1) 0) ArrayState.NeedsComma (bufs ev er (r .n)) (r .cur)
+  pub stack-pop : r .turn .next ≡ Next.Over → (depth ≡ 0 → ⊥) → Stacked s levels start o₀ cur₀ starts ends (depth - 1) (left + 1) (getD starts (depth - 1) 0) (getD ends (depth - 1) 0) ArrayState.NeedsComma (bufs ev er (r .turn .n)) (r .turn .cur)
   stack-pop e h = popped (inv .frames) (inv .held) (here Next.Over e)
     where
-      popped : (fs : List Frame) → Held fs starts ends depth left (length (tokensAt s cur)) → run All (resume fs (done (tokensAt s (r .cur)))) (bufs ev er (r .n)) ≡ run All start o₀
-          → Stacked s levels start o₀ cur₀ starts ends (depth - 1) (left + 1) (getD starts (depth - 1) 0) (getD ends (depth - 1) 0) ArrayState.NeedsComma (bufs ev er (r .n)) (r .cur)
+      popped : (fs : List Frame) → Held fs starts ends depth left (length (tokensAt s cur)) → run All (resume fs (done (tokensAt s (r .turn .cur)))) (bufs ev er (r .turn .n)) ≡ run All start o₀
+          → Stacked s levels start o₀ cur₀ starts ends (depth - 1) (left + 1) (getD starts (depth - 1) 0) (getD ends (depth - 1) 0) ArrayState.NeedsComma (bufs ev er (r .turn .n)) (r .turn .cur)
       popped [] z g = absurd (h z)
       popped (f ∷ fs) (z, p, q, l, m, k) g =
-          let F : ℕ → ℕ → ℕ → End = λ u v i. run All (resume fs (turns (arrayTurn (span u v) (onOpen i)) (f .fuel) ArrayState.NeedsComma (tokensAt s (r .cur)))) (bufs ev er (r .n)) in
+          let F : ℕ → ℕ → ℕ → End = λ u v i. run All (resume fs (turns (arrayTurn (span u v) (onOpen i)) (f .fuel) ArrayState.NeedsComma (tokensAt s (r .turn .cur)))) (bufs ev er (r .turn .n)) in
           record {
             frames = fs;
-            held = held-less fs starts ends (depth - 1) (left + 1) _ _ (fewer (r .cur) (stack-over-moved e)) k;
+            held = held-less fs starts ends (depth - 1) (left + 1) _ _ (fewer (r .turn .cur) (stack-over-moved e)) k;
             fuel = f .fuel;
-            enough = omega (arith, m, fewer (r .cur) (stack-over-moved e));
+            enough = omega (arith, m, fewer (r .turn .cur) (stack-over-moved e));
             same = ap (λ (u : ℕ). F u (getD ends (depth - 1) 0) (left + 1)) p ∙ ap (λ (v : ℕ). F (f .start) v (left + 1)) q ∙ ap (λ (i : ℕ). F (f .start) (f .end) i) (sym l) ∙ g;
             good = y .good;
             on = omega (arith, stack-over-moved e, inv .on);
@@ -193,15 +193,15 @@ module _ {s : List ℕ} {levels : ℕ} {start : Out} {o₀ : Bufs} {cur₀ : Cur
           }
 
   -- an array opens in the innermost, which waits from now on
-  pub stack-push : (t : Token) → r .next ≡ Next.OpenArray t → (left ≡ 0 → ⊥) → depth < length starts → depth < length ends → (o' : Bufs) → ((all : List Tok) → o' ≡ put all (receiver.arrayOpen (t .start) (t .end)) (bufs ev er (r .n)))
-      → Stacked s levels start o₀ cur₀ (set starts depth a) (set ends depth b) (depth + 1) (left - 1) (t .start) (t .end) ArrayState.NeedsValue o' (r .cur)
+  pub stack-push : (t : Token) → r .turn .next ≡ Next.OpenArray t → (left ≡ 0 → ⊥) → depth < length starts → depth < length ends → (o' : Bufs) → ((all : List Tok) → o' ≡ put all (receiver.arrayOpen (t .start) (t .end)) (bufs ev er (r .turn .n)))
+      → Stacked s levels start o₀ cur₀ (set starts depth a) (set ends depth b) (depth + 1) (left - 1) (t .start) (t .end) ArrayState.NeedsValue o' (r .turn .cur)
   stack-push t e h ls le o' p =
       record {
         frames = top ∷ inv .frames;
         held = (omega arith, ap (λ (i : ℕ). getD (set starts depth a) i 0) one ∙ set-same starts depth a ls, ap (λ (i : ℕ). getD (set ends depth b) i 0) one ∙ set-same ends depth b le, omega (arith, h), enough-at (Next.OpenArray t) e, below);
-        fuel = length (tokensAt s (r .cur));
+        fuel = length (tokensAt s (r .turn .cur));
         enough = omega arith;
-        same = resume-same (top ∷ inv .frames) All inside (receiver.arrayOpen (t .start) (t .end) ▹ inside) o' (bufs ev er (r .n)) (sym (first-item All inside _ (bufs ev er (r .n)) o' (p All))) ∙ opened;
+        same = resume-same (top ∷ inv .frames) All inside (receiver.arrayOpen (t .start) (t .end) ▹ inside) o' (bufs ev er (r .turn .n)) (sym (first-item All inside _ (bufs ev er (r .turn .n)) o' (p All))) ∙ opened;
         good = y .good;
         on = omega (arith, stack-array-moved t e, inv .on);
         base = y .base ∙ inv .base;
@@ -212,7 +212,7 @@ module _ {s : List ℕ} {levels : ℕ} {start : Out} {o₀ : Bufs} {cur₀ : Cur
       top = record { start = a; end = b; fuel = onward .fuel; levels = left }
 
       inside : Out
-      inside = looping (arrayTurn (span (t .start) (t .end)) (onOpen (left - 1))) ArrayState.NeedsValue (tokensAt s (r .cur))
+      inside = looping (arrayTurn (span (t .start) (t .end)) (onOpen (left - 1))) ArrayState.NeedsValue (tokensAt s (r .turn .cur))
 
       one : depth + 1 - 1 ≡ depth
       one = omega arith
@@ -220,27 +220,27 @@ module _ {s : List ℕ} {levels : ℕ} {start : Out} {o₀ : Bufs} {cur₀ : Cur
       up : left - 1 + 1 ≡ left
       up = omega (arith, h)
 
-      below : Held (inv .frames) (set starts depth a) (set ends depth b) (depth + 1 - 1) (left - 1 + 1) (length (tokensAt s (r .cur)))
+      below : Held (inv .frames) (set starts depth a) (set ends depth b) (depth + 1 - 1) (left - 1 + 1) (length (tokensAt s (r .turn .cur)))
       below =
-          subst (λ (i : ℕ). Held (inv .frames) (set starts depth a) (set ends depth b) i (left - 1 + 1) (length (tokensAt s (r .cur)))) (sym one)
-          (subst (λ (l : ℕ). Held (inv .frames) (set starts depth a) (set ends depth b) depth l (length (tokensAt s (r .cur)))) (sym up)
-          (held-set (inv .frames) starts ends depth a b depth left _ (omega arith) (held-less (inv .frames) starts ends depth left _ _ (fewer (r .cur) (omega (arith, stack-array-moved t e))) (inv .held))))
+          subst (λ (i : ℕ). Held (inv .frames) (set starts depth a) (set ends depth b) i (left - 1 + 1) (length (tokensAt s (r .turn .cur)))) (sym one)
+          (subst (λ (l : ℕ). Held (inv .frames) (set starts depth a) (set ends depth b) depth l (length (tokensAt s (r .turn .cur)))) (sym up)
+          (held-set (inv .frames) starts ends depth a b depth left _ (omega arith) (held-less (inv .frames) starts ends depth left _ _ (fewer (r .turn .cur) (omega (arith, stack-array-moved t e))) (inv .held))))
 
-      opened : run All (resume (inv .frames) ((receiver.arrayOpen (t .start) (t .end) ▹ inside) then waiting top)) (bufs ev er (r .n)) ≡ run All start o₀
+      opened : run All (resume (inv .frames) ((receiver.arrayOpen (t .start) (t .end) ▹ inside) then waiting top)) (bufs ev er (r .turn .n)) ≡ run All start o₀
       opened =
-          ap (λ (g : Out). run All (resume (inv .frames) (g then waiting top)) (bufs ev er (r .n))) (open-array left (t .start) (t .end) (tokensAt s (r .cur)) h)
-          ∙ ap (λ (st : ArrayState). run All (resume (inv .frames) (onOpen left Bracket.Square (t .start) (t .end) (tokensAt s (r .cur)) then Loop (onward .fuel) st)) (bufs ev er (r .n))) (sym (subst (λ (x : Next). Wants x (r .state)) e (y .wants)))
+          ap (λ (g : Out). run All (resume (inv .frames) (g then waiting top)) (bufs ev er (r .turn .n))) (open-array left (t .start) (t .end) (tokensAt s (r .turn .cur)) h)
+          ∙ ap (λ (st : ArrayState). run All (resume (inv .frames) (onOpen left Bracket.Square (t .start) (t .end) (tokensAt s (r .turn .cur)) then Loop (onward .fuel) st)) (bufs ev er (r .turn .n))) (sym (subst (λ (x : Next). Wants x (r .state)) e (y .wants)))
           ∙ here (Next.OpenArray t) e
 
   -- a bracket was opened by a call, which was refused or not
-  module _ {ev' er' : List ℕ} {v : NestWalk} (g : Out) (q : run All (resume (inv .frames) (g then Loop (onward .fuel) (r .state))) (bufs ev er (r .n)) ≡ run All start o₀) (h : cur .at + 1 ≤ r .cur .at) (m : length (tokensAt s (r .cur)) ≤ onward .fuel) (z : Nested s g (r .cur) (bufs ev er (r .n)) ev' er' v) where
+  module _ {ev' er' : List ℕ} {v : NestWalk} (g : Out) (q : run All (resume (inv .frames) (g then Loop (onward .fuel) (r .state))) (bufs ev er (r .turn .n)) ≡ run All start o₀) (h : cur .at + 1 ≤ r .turn .cur .at) (m : length (tokensAt s (r .turn .cur)) ≤ onward .fuel) (z : Nested s g (r .turn .cur) (bufs ev er (r .turn .n)) ev' er' v) where
     called-again : v .stopped ≡ false → Stacked s levels start o₀ cur₀ starts ends depth left a b (r .state) (bufs ev' er' (v .n)) (v .cur)
     called-again e =
         record {
           frames = inv .frames;
           held = held-less (inv .frames) starts ends depth left _ _ (fewer (v .cur) (omega (arith, h, z .on))) (inv .held);
           fuel = onward .fuel;
-          enough = omega (arith, m, z .on, left-length s (r .cur), left-length s (v .cur));
+          enough = omega (arith, m, z .on, left-length s (r .turn .cur), left-length s (v .cur));
           same = resume-same (inv .frames) All _ _ _ _ (sym (then-nested (Loop (onward .fuel) (r .state)) _ (y .base ∙ inv .base) z e)) ∙ q;
           good = z .good;
           on = omega (arith, h, z .on, inv .on);
@@ -252,18 +252,18 @@ module _ {s : List ℕ} {levels : ℕ} {start : Out} {o₀ : Bufs} {cur₀ : Cur
     called-stop e = nested-from q (omega (arith, h, inv .on)) (y .base ∙ inv .base) (resume-stop (inv .frames) (nested-stop (Loop (onward .fuel) (r .state)) z e) e)
 
   module _ (t : Token) {ev' er' : List ℕ} {v : NestWalk} where
-    pub stack-array-again : r .next ≡ Next.OpenArray t → Nested s (onOpen left Bracket.Square (t .start) (t .end) (tokensAt s (r .cur))) (r .cur) (bufs ev er (r .n)) ev' er' v → v .stopped ≡ false → Stacked s levels start o₀ cur₀ starts ends depth left a b (r .state) (bufs ev' er' (v .n)) (v .cur)
-    stack-array-again e z f = called-again (onOpen left Bracket.Square (t .start) (t .end) (tokensAt s (r .cur))) (here (Next.OpenArray t) e) (stack-array-moved t e) (enough-at (Next.OpenArray t) e) z f
+    pub stack-array-again : r .turn .next ≡ Next.OpenArray t → Nested s (onOpen left Bracket.Square (t .start) (t .end) (tokensAt s (r .turn .cur))) (r .turn .cur) (bufs ev er (r .turn .n)) ev' er' v → v .stopped ≡ false → Stacked s levels start o₀ cur₀ starts ends depth left a b (r .state) (bufs ev' er' (v .n)) (v .cur)
+    stack-array-again e z f = called-again (onOpen left Bracket.Square (t .start) (t .end) (tokensAt s (r .turn .cur))) (here (Next.OpenArray t) e) (stack-array-moved t e) (enough-at (Next.OpenArray t) e) z f
 
-    pub stack-array-stop : r .next ≡ Next.OpenArray t → Nested s (onOpen left Bracket.Square (t .start) (t .end) (tokensAt s (r .cur))) (r .cur) (bufs ev er (r .n)) ev' er' v → v .stopped ≡ true → Nested s start cur₀ o₀ ev' er' v
-    stack-array-stop e z f = called-stop (onOpen left Bracket.Square (t .start) (t .end) (tokensAt s (r .cur))) (here (Next.OpenArray t) e) (stack-array-moved t e) (enough-at (Next.OpenArray t) e) z f
+    pub stack-array-stop : r .turn .next ≡ Next.OpenArray t → Nested s (onOpen left Bracket.Square (t .start) (t .end) (tokensAt s (r .turn .cur))) (r .turn .cur) (bufs ev er (r .turn .n)) ev' er' v → v .stopped ≡ true → Nested s start cur₀ o₀ ev' er' v
+    stack-array-stop e z f = called-stop (onOpen left Bracket.Square (t .start) (t .end) (tokensAt s (r .turn .cur))) (here (Next.OpenArray t) e) (stack-array-moved t e) (enough-at (Next.OpenArray t) e) z f
 
-    pub stack-table-again : r .next ≡ Next.OpenTable t → Nested s (onOpen left Bracket.Curly (t .start) (t .end) (tokensAt s (r .cur))) (r .cur) (bufs ev er (r .n)) ev' er' v → v .stopped ≡ false → Stacked s levels start o₀ cur₀ starts ends depth left a b (r .state) (bufs ev' er' (v .n)) (v .cur)
-    stack-table-again e z f = called-again (onOpen left Bracket.Curly (t .start) (t .end) (tokensAt s (r .cur))) (here (Next.OpenTable t) e) (stack-table-moved t e) (enough-at (Next.OpenTable t) e) z f
+    pub stack-table-again : r .turn .next ≡ Next.OpenTable t → Nested s (onOpen left Bracket.Curly (t .start) (t .end) (tokensAt s (r .turn .cur))) (r .turn .cur) (bufs ev er (r .turn .n)) ev' er' v → v .stopped ≡ false → Stacked s levels start o₀ cur₀ starts ends depth left a b (r .state) (bufs ev' er' (v .n)) (v .cur)
+    stack-table-again e z f = called-again (onOpen left Bracket.Curly (t .start) (t .end) (tokensAt s (r .turn .cur))) (here (Next.OpenTable t) e) (stack-table-moved t e) (enough-at (Next.OpenTable t) e) z f
 
-    pub stack-table-stop : r .next ≡ Next.OpenTable t → Nested s (onOpen left Bracket.Curly (t .start) (t .end) (tokensAt s (r .cur))) (r .cur) (bufs ev er (r .n)) ev' er' v → v .stopped ≡ true → Nested s start cur₀ o₀ ev' er' v
-    stack-table-stop e z f = called-stop (onOpen left Bracket.Curly (t .start) (t .end) (tokensAt s (r .cur))) (here (Next.OpenTable t) e) (stack-table-moved t e) (enough-at (Next.OpenTable t) e) z f
+    pub stack-table-stop : r .turn .next ≡ Next.OpenTable t → Nested s (onOpen left Bracket.Curly (t .start) (t .end) (tokensAt s (r .turn .cur))) (r .turn .cur) (bufs ev er (r .turn .n)) ev' er' v → v .stopped ≡ true → Nested s start cur₀ o₀ ev' er' v
+    stack-table-stop e z f = called-stop (onOpen left Bracket.Curly (t .start) (t .end) (tokensAt s (r .turn .cur))) (here (Next.OpenTable t) e) (stack-table-moved t e) (enough-at (Next.OpenTable t) e) z f
 
   -- an array where no level is left
-  pub stack-none : (t : Token) → r .next ≡ Next.OpenArray t → left ≡ 0 → Nested s start cur₀ o₀ ev er (record { cur = r .cur; n = r .n; stopped = true })
-  stack-none t e h = stack-array-stop t e (no-level left Bracket.Square (t .start) (t .end) (r .cur) ev er (r .n) h (y .good)) refl
+  pub stack-none : (t : Token) → r .turn .next ≡ Next.OpenArray t → left ≡ 0 → Nested s start cur₀ o₀ ev er (record { cur = r .turn .cur; n = r .turn .n; stopped = true })
+  stack-none t e h = stack-array-stop t e (no-level left Bracket.Square (t .start) (t .end) (r .turn .cur) ev er (r .turn .n) h (y .good)) refl

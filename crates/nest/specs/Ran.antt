@@ -32,8 +32,8 @@ pub record Left (s : List ℕ) (r : Out) (o : Bufs) (onward : ℕ → Out) (o' :
 -- turns in the array that was opened at `head`, from cursor c, buffers o and state w, ended with the buffers a and b and as r says
 pub record Ran (s : List ℕ) (head : Place) (w : ArrayState) (c : Cursor) (o : Bufs) (a b : List ℕ) (r : ArrayTurn) : Type 0 where
   pub is : (nest : Nest) (k : ℕ) → length (tokensAt s c) ≤ k
-      → Left s (turns (arrayTurn head nest) k w (tokensAt s c)) o (λ j. goOn (r .next) nest (turns (arrayTurn head nest) j) (r .state) (tokensAt s (r .cur))) (bufs a b (r .n)) (r .next) c (r .cur)
-  pub good : Good s (r .cur)
-  pub on : Further (r .next) c (r .cur)
-  pub base : r .cur .base ≡ c .base
-  pub wants : Wants (r .next) (r .state)
+      → Left s (turns (arrayTurn head nest) k w (tokensAt s c)) o (λ j. goOn (r .turn .next) nest (turns (arrayTurn head nest) j) (r .state) (tokensAt s (r .turn .cur))) (bufs a b (r .turn .n)) (r .turn .next) c (r .turn .cur)
+  pub good : Good s (r .turn .cur)
+  pub on : Further (r .turn .next) c (r .turn .cur)
+  pub base : r .turn .cur .base ≡ c .base
+  pub wants : Wants (r .turn .next) (r .state)

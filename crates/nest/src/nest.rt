@@ -3,7 +3,7 @@
 // registers.
 use crate::turns::array_turns;
 use array_parts::turn::Next;
-use inline_parts::actions::action_table;
+use inline_actions::action_table;
 use inline_turns::inline_table::inline_table_turn;
 use output::emitting::Counts;
 use output::emitting::Walk;
@@ -78,10 +78,11 @@ pub fn on_array_open(
     let mut depth: usize = 0;
     loop {
         let a = array_turns(s, inner, cur, n, state, events, errors);
-        cur = a.cur;
-        n = a.n;
+        let turn = a.turn;
+        cur = turn.cur;
+        n = turn.n;
         state = a.state;
-        let x = a.next;
+        let x = turn.next;
         match x {
             Next::Again => {}
             Next::Over => {
@@ -194,10 +195,11 @@ pub fn on_inline_table_open(
     };
     loop {
         let a = inline_table_turn(s, head, opened, cur, n, p, &actions, events, errors);
-        cur = a.cur;
-        n = a.n;
+        let turn = a.turn;
+        cur = turn.cur;
+        n = turn.n;
         p = a.progress;
-        let x = a.next;
+        let x = turn.next;
         match x {
             Next::Again => {}
             Next::Over => {

@@ -29,11 +29,12 @@ pub fn array_turns(
     let mut state = begin;
     loop {
         let a = array_turn(s, head, cur, n, state, events, errors);
-        let x = a.next;
+        let turn = a.turn;
+        let x = turn.next;
         match x {
             Next::Again => {
-                cur = a.cur;
-                n = a.n;
+                cur = turn.cur;
+                n = turn.n;
                 state = a.state;
             }
             Next::Over => {

@@ -2,12 +2,12 @@
 // The line of an error, and the comma that the report of a trailing comma is about, are found when the walk is over, by the crate line_numbers.
 use crate::expected::NOTHING;
 use crate::message::TRAILING_COMMA;
+use classes::event::encoding_of;
+use classes::event::event_number;
 use rules::answer::ERROR_WORDS;
 use rules::answer::EVENT_WORDS;
 use rules::event::Encoding;
 use rules::event::Event;
-use rules::event::encoding_of;
-use rules::event::event_number;
 use token::cursor::Cursor;
 use token::cursor::Token;
 ghost use mathlib.Core.Path.{_≡_};

@@ -1,6 +1,3 @@
-// What is asked of a run's answer and of a list before it is acted on: whether the run was quiet, whether a key is a multi-line string, and
-// whether the list is as the grammar supposes.
-pub mod keys;
-pub mod regular;
+// What is asked of a run before it is acted on: whether it was quiet; and what that and the two other questions amount to.
 pub mod run;
 pub mod theorems;

@@ -1,8 +1,4 @@
-// What the kinds of token are to arrays, and an array's state.
-use token::kind::Kind;
-ghost use mathlib.Core.Path.{_≡_};
-ghost use Rattle.rules.specs.Array.{inArray};
-
+// The classes of kinds that arrays go by, and an array's state.
 // What an array wants next.
 pub enum ArrayState {
     NeedsValue,
@@ -22,27 +18,4 @@ pub enum InArray {
     OpenSquare,
     CloseSquare,
     Scalar,
-}
-
-pub fn in_array(kind: Kind) -> InArray
-    ensures { λ r. ⌜ r ≡ inArray kind ⌝ }
-{
-    match kind {
-        Kind::Dot => InArray::Scalar,
-        Kind::Equals => InArray::Equals,
-        Kind::Comma => InArray::Comma,
-        Kind::LeftSquareBracket => InArray::OpenSquare,
-        Kind::RightSquareBracket => InArray::CloseSquare,
-        Kind::LeftCurlyBracket => InArray::OpenCurly,
-        Kind::RightCurlyBracket => InArray::CloseCurly,
-        Kind::Whitespace => InArray::Whitespace,
-        Kind::Comment => InArray::Comment,
-        Kind::Newline => InArray::Newline,
-        Kind::LiteralString => InArray::Scalar,
-        Kind::BasicString => InArray::Scalar,
-        Kind::MlLiteralString => InArray::Scalar,
-        Kind::MlBasicString => InArray::Scalar,
-        Kind::Atom => InArray::Scalar,
-        Kind::Eof => InArray::Eof,
-    }
 }

@@ -1,7 +1,4 @@
 // The events, and how a key or a scalar is written.
-ghost use mathlib.Core.Path.{_≡_};
-ghost use Rattle.rules.specs.Words.{encodingNumber, eventNumber, encodingOf};
-
 pub enum Encoding {
     None,
     LiteralString,
@@ -28,65 +25,4 @@ pub enum Event {
     Comment,
     Newline,
     Error,
-}
-
-pub fn encoding_number(e: Encoding) -> u32
-    ensures { λ r. ⌜ r ≡ encodingNumber e ⌝ }
-{
-    match e {
-        Encoding::None => 0,
-        Encoding::LiteralString => 1,
-        Encoding::BasicString => 2,
-        Encoding::MlLiteralString => 3,
-        Encoding::MlBasicString => 4,
-    }
-}
-
-pub fn event_number(e: Event) -> u32
-    ensures { λ r. ⌜ r ≡ eventNumber e ⌝ }
-{
-    match e {
-        Event::StdTableOpen => 1,
-        Event::StdTableClose => 2,
-        Event::ArrayTableOpen => 3,
-        Event::ArrayTableClose => 4,
-        Event::SimpleKey(_) => 5,
-        Event::KeySep => 6,
-        Event::KeyValSep => 7,
-        Event::Scalar(_) => 8,
-        Event::ValueSep => 9,
-        Event::ArrayOpen => 10,
-        Event::ArrayClose => 11,
-        Event::InlineTableOpen => 12,
-        Event::InlineTableClose => 13,
-        Event::Whitespace => 14,
-        Event::Comment => 15,
-        Event::Newline => 16,
-        Event::Error => 17,
-    }
-}
-
-// The encoding's number of an event: 0 for all but keys and scalars.
-pub fn encoding_of(e: Event) -> u32
-    ensures { λ r. ⌜ r ≡ encodingOf e ⌝ }
-{
-    match e {
-        Event::StdTableOpen => 0,
-        Event::StdTableClose => 0,
-        Event::ArrayTableOpen => 0,
-        Event::ArrayTableClose => 0,
-        Event::SimpleKey(c) => encoding_number(c),
-        Event::KeySep => 0,
-        Event::KeyValSep => 0,
-        Event::Scalar(c) => encoding_number(c),
-        Event::ValueSep => 0,
-        Event::ArrayOpen => 0,
-        Event::ArrayClose => 0,
-        Event::InlineTableOpen => 0,
-        Event::InlineTableClose => 0,
-        Event::Whitespace => 0,
-        Event::Comment => 0,
-        Event::Newline => 0,
-        Event::Error => 0,
-    }
 }

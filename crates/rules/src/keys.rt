@@ -1,8 +1,5 @@
-// What the kinds of token are to keys.
+// The classes of kinds that keys go by.
 use crate::event::Encoding;
-use token::kind::Kind;
-ghost use mathlib.Core.Path.{_≡_};
-ghost use Rattle.rules.specs.Keys.{inKey};
 
 // What a kind is to a key.
 pub enum InKey {
@@ -10,27 +7,4 @@ pub enum InKey {
     Whitespace,
     Dot,
     Other,
-}
-
-pub fn in_key(kind: Kind) -> InKey
-    ensures { λ r. ⌜ r ≡ inKey kind ⌝ }
-{
-    match kind {
-        Kind::Dot => InKey::Dot,
-        Kind::Equals => InKey::Other,
-        Kind::Comma => InKey::Other,
-        Kind::LeftSquareBracket => InKey::Other,
-        Kind::RightSquareBracket => InKey::Other,
-        Kind::LeftCurlyBracket => InKey::Other,
-        Kind::RightCurlyBracket => InKey::Other,
-        Kind::Whitespace => InKey::Whitespace,
-        Kind::Comment => InKey::Other,
-        Kind::Newline => InKey::Other,
-        Kind::LiteralString => InKey::Part(Encoding::LiteralString),
-        Kind::BasicString => InKey::Part(Encoding::BasicString),
-        Kind::MlLiteralString => InKey::Part(Encoding::MlLiteralString),
-        Kind::MlBasicString => InKey::Part(Encoding::MlBasicString),
-        Kind::Atom => InKey::Part(Encoding::None),
-        Kind::Eof => InKey::Other,
-    }
 }

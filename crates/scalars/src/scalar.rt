@@ -1,4 +1,6 @@
 // Scalars.
+use classes::scalar::in_scalar;
+use classes::scalar::starting_of;
 use output::emitting::Counts;
 use output::emitting::Walk;
 use output::emitting::emit;
@@ -6,8 +8,6 @@ use rules::event::Encoding;
 use rules::event::Event;
 use rules::scalar::InScalar;
 use rules::scalar::Starting;
-use rules::scalar::in_scalar;
-use rules::scalar::starting_of;
 use token::cursor::Cursor;
 use token::cursor::Step;
 use token::cursor::Token;

@@ -1,9 +1,5 @@
-// One token of a text: lexer/mod.rs, function by function.
-pub mod basic;
-pub mod codes;
+// What is right of a text's tokens: the rules of lexer/mod.rs as definitions in specs/, the types that rules and code share, and the tokens
+// that end at the first byte of a set.
 pub mod lexer;
-pub mod literal;
-pub mod quotes;
 pub mod sets;
 pub mod start;
-pub mod table;

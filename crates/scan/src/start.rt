@@ -1,6 +1,4 @@
-// What a token starts with.
-ghost use mathlib.Core.Path.{_≡_};
-ghost use Rattle.scan.specs.Lexer.{startOf};
+// The classes of bytes that a token starts with.
 
 pub enum Start {
     Dot,
@@ -17,26 +15,4 @@ pub enum Start {
     Apostrophe,
     QuotationMark,
     Other,
-}
-
-pub fn start_of(b: u8) -> Start
-    ensures { λ r. ⌜ r ≡ startOf b ⌝ }
-{
-    match b {
-        b'.' => Start::Dot,
-        b'=' => Start::Equals,
-        b',' => Start::Comma,
-        b'[' => Start::LeftSquareBracket,
-        b']' => Start::RightSquareBracket,
-        b'{' => Start::LeftCurlyBracket,
-        b'}' => Start::RightCurlyBracket,
-        b' ' => Start::Wschar,
-        b'\t' => Start::Wschar,
-        b'#' => Start::CommentStartSymbol,
-        b'\r' => Start::CarriageReturn,
-        b'\n' => Start::LineFeed,
-        b'\'' => Start::Apostrophe,
-        b'"' => Start::QuotationMark,
-        _ => Start::Other,
-    }
 }

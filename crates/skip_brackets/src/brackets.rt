@@ -1,11 +1,11 @@
 // Skipping to a closing bracket.
+use classes::skipping::in_close;
 use output::emitting::Counts;
 use output::emitting::Walk;
 use output::emitting::emit;
 use rules::event::Event;
 use rules::skipping::Bracket;
 use rules::skipping::InClose;
-use rules::skipping::in_close;
 use skip_lines::skipping::on_comment;
 use token::cursor::Cursor;
 use token::cursor::Step;

@@ -1,4 +1,5 @@
 // Skipping to the end of a line.
+use classes::skipping::in_line;
 use output::emitting::Counts;
 use output::emitting::Walk;
 use output::emitting::emit;
@@ -7,7 +8,6 @@ use output::expected::A_NEWLINE;
 use output::message::CONTENT_AFTER_COMMENT;
 use rules::event::Event;
 use rules::skipping::InLine;
-use rules::skipping::in_line;
 use token::cursor::Cursor;
 use token::cursor::Step;
 use token::cursor::Token;

@@ -18,8 +18,8 @@ use Rattle.rules.specs.Entries.{documentEntry}
 use Rattle.rules.specs.declared.options.Options.{Options}
 use Rattle.rules.specs.declared.answer.Answer.{Answer}
 use Rattle.rules.specs.Answer.{outcome}
-use Rattle.entries.specs.declared.modes.Chosen.{Chosen}
-use Rattle.entries.specs.Modes.{chosenBy, outcomeOf, AnswersIn}
+use Rattle.choices.specs.declared.modes.Chosen.{Chosen}
+use Rattle.choices.specs.Modes.{chosenBy, outcomeOf, AnswersIn}
 use Rattle.structs.specs.declared.Token.{Token}
 use Rattle.structs.specs.Structs.{recordsOf, tooManyBy, tooMany}
 

@@ -4,8 +4,8 @@ use mathlib.Core.List.{List, [], _∷_, _++_}
 use Prim.Native.Nat.{ℕ, _*_, _<_, _^_}
 use lib.ListN.{length}
 use Rattle.rules.specs.declared.answer.Answer.{Answer}
-use Rattle.entries.specs.declared.modes.Chosen.{Chosen}
-use Rattle.entries.specs.Modes.{chosenBy, unknownMode}
+use Rattle.choices.specs.declared.modes.Chosen.{Chosen}
+use Rattle.choices.specs.Modes.{chosenBy, unknownMode}
 use Rattle.token.specs.Limits.{maxRecords}
 use Rattle.token.specs.Records.{lengthAt, kindNumberAt}
 use Rattle.token.specs.Writing.{recordOf}

@@ -1,19 +1,19 @@
 // The document entry over a lent list of token structs: they are copied into records, and the byte form parses these.
 pub mod theorems;
 
+use choices::modes::Chosen;
+use choices::modes::choose;
+use choices::modes::unknown_mode;
 use entries::entries::parse_document;
-use entries::modes::Chosen;
-use entries::modes::choose;
-use entries::modes::unknown_mode;
 use rules::answer::Answer;
 use token::checked::MAX_RECORDS;
-use token::writing::put_record;
+use writing::put_record;
 ghost use mathlib.Core.Path.{_≡_};
 ghost use mathlib.Core.List.{_++_};
 ghost use Prim.Native.Nat.{_+_, _*_, _≤_};
 ghost use lib.ListN.{length, take, drop};
 ghost use Rattle.rules.specs.Entries.{documentEntry};
-ghost use Rattle.entries.specs.Modes.{AnswersIn};
+ghost use Rattle.choices.specs.Modes.{AnswersIn};
 ghost use Rattle.token.specs.Writing.{putAt};
 ghost use Rattle.structs.specs.Structs.{recordsOf, tooMany};
 

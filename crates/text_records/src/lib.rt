@@ -1,18 +1,18 @@
 // The records of a text's tokens. What a token is goes by the code of its first byte, and each case writes its own record: most
 // tokens are a byte that is one by itself, a space, or an atom.
-use scan::basic::lex_basic_string;
-use scan::codes::LAST_ALONE;
-use scan::codes::OTHER;
-use scan::codes::code_of;
-use scan::codes::lex_atom_by_code;
-use scan::codes::whitespace_ends;
-use scan::lexer::process_token;
-use scan::literal::lex_literal_string;
-use scan::quotes::starts_three;
+use byte_codes::codes::LAST_ALONE;
+use byte_codes::codes::OTHER;
+use byte_codes::codes::code_of;
+use byte_codes::codes::lex_atom_by_code;
+use byte_codes::codes::whitespace_ends;
+use byte_codes::table::code_table;
+use one_token::lexer::process_token;
 use scan::sets::lex_comment;
 use scan::sets::lex_crlf;
 use scan::sets::lex_whitespace;
-use scan::table::code_table;
+use strings::basic::lex_basic_string;
+use strings::literal::lex_literal_string;
+use strings::quotes::starts_three;
 use token::kind::Kind;
 use token::kind::number_of;
 ghost use mathlib.Core.Path.{_≡_};

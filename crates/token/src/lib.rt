@@ -4,4 +4,3 @@ pub mod cursor;
 pub mod kind;
 pub mod record;
 pub mod span;
-pub mod writing;

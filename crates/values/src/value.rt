@@ -1,6 +1,7 @@
 // Values.
 use array_parts::brackets::without_open;
-use key_dots::dots::nothing_left;
+use classes::value::in_value;
+use key_spaces::nothing_left;
 use nest::nest::NestWalk;
 use nest::nest::on_array_open;
 use nest::nest::on_inline_table_open;
@@ -18,7 +19,6 @@ use rules::event::Event;
 use rules::options::Settings;
 use rules::skipping::Bracket;
 use rules::value::InValue;
-use rules::value::in_value;
 use scalars::scalar::on_scalar;
 use token::cursor::Cursor;
 use token::cursor::Step;

@@ -1,8 +1,8 @@
 -- The C structure holds the entry's answer, or that to an unknown mode.
 -- Made by ./proofs from Proof.tmpl: change that.
 use Rattle.rules.specs.Entries.{simpleKeyEntry}
-use Rattle.entries.specs.ModeLaws.{known-answers, unknown-answers}
-use Rattle.deckmarten.proofs.ExportLaws.{exports}
+use Rattle.choices.specs.ModeLaws.{known-answers, unknown-answers}
+use Rattle.exports.specs.ExportLaws.{exports}
 use borrow.Author.Needs.{needs}
 use Rattle.deckmarten.proofs.deckmarten_parse_simple_key.Statement.{statement}
 use Rattle.deckmarten.proofs.deckmarten_parse_simple_key.Tie as tie

@@ -2,7 +2,7 @@
 -- Made by ./proofs from Proof.tmpl: change that.
 use mathlib.Core.Path.{refl}
 use native.Mathlib.Omega.{arith}
-use Rattle.index.proofs.CountLaws.{headers-few}
+use Rattle.headers.proofs.CountLaws.{headers-few}
 use Rattle.index.proofs.IndexLaws.{not-quiet, no-room, written}
 use borrow.Author.Needs.{needs}
 use Rattle.index.proofs.index.Statement.{statement}

@@ -29,15 +29,15 @@ use denote.Triple.Statement.{Contract, Triple}
 use denote.Triple.Clauses.{ensured, lasts}
 use denote.Triple.Walked.{says}
 use Rattle.rules.specs.Answer.{eventSize}
-use Rattle.index.specs.Headers.{opensHeader}
-use Rattle.index.specs.States.{Finishable}
-use Rattle.index.specs.declared.state.IndexState.{IndexState}
-use Rattle.index.proofs.state.IndexState as T
-use Rattle.index.proofs.state.IndexState.Laws as T′
-use Rattle.index.proofs.state.kind_at as kind
-use Rattle.index.proofs.state.kind_at.Symbol.{name as #index·state·kind-at}
-use Rattle.index.proofs.state.note as note
-use Rattle.index.proofs.state.note.Symbol.{name as #index·state·note}
+use Rattle.headers.specs.Headers.{opensHeader}
+use Rattle.headers.specs.States.{Finishable}
+use Rattle.headers.specs.declared.state.IndexState.{IndexState}
+use Rattle.headers.proofs.state.IndexState as T
+use Rattle.headers.proofs.state.IndexState.Laws as T′
+use Rattle.headers.proofs.state.kind_at as kind
+use Rattle.headers.proofs.state.kind_at.Symbol.{name as #headers·state·kind-at}
+use Rattle.headers.proofs.state.note as note
+use Rattle.headers.proofs.state.note.Symbol.{name as #headers·state·note}
 use Rattle.index.proofs.walked.finish_before as before
 use Rattle.index.proofs.walked.finish_before.Symbol.{name as #index·walked·finish-before}
 use Rattle.index.proofs.walked.finish as last
@@ -71,9 +71,9 @@ module _ {M : Type 1} (𝓤 : URA M) (H : Heap 𝓤) (A : Atoms 𝓤) (at-mem : 
   Last = tripleOf 𝓤 H A last.signature (last.spec 𝓤 H A at-mem run)
 
   pub record Known (𝓣 : Tables 𝓤 H) : Type 2 where
-    pub kind-at : Triple 𝓤 (𝓣 .C #index·state·kind-at) KindAt
+    pub kind-at : Triple 𝓤 (𝓣 .C #headers·state·kind-at) KindAt
     pub before : Triple 𝓤 (𝓣 .C #index·walked·finish-before) Before
-    pub note : Triple 𝓤 (𝓣 .C #index·state·note) Note
+    pub note : Triple 𝓤 (𝓣 .C #headers·state·note) Note
     pub last : Triple 𝓤 (𝓣 .C #index·walked·finish) Last
 
   -- what the triples of the calls bind outside

@@ -43,15 +43,15 @@ use denote.Triple.Table.{entered, cited}
 use denote.Triple.Walked.{says, needs, Stays, stay-none, stay-none-slice, gave-slice, walkOf, goes-none, goes-none-slice, goes-gave-slice, Walks, ends-at, walked, walk-meets}
 use denote.Exit.{yes}
 use borrow.Table.OneValue.{part-in-at, part-out-at}
-use Rattle.index.specs.Headers.{kindsFrom, headersIn, indexBytes, entrySize}
-use Rattle.index.specs.States.{fresh, stateBehind, Walkable}
-use Rattle.index.specs.declared.state.IndexState.{IndexState}
-use Rattle.index.proofs.state.IndexState as T
-use Rattle.index.proofs.state.IndexState.Laws as T′
-use Rattle.index.proofs.state.begin as begin
-use Rattle.index.proofs.state.begin.Symbol as begin-def
-use Rattle.index.proofs.state.begin.Symbol.{name as #index·state·begin}
-use Rattle.index.proofs.state.begin.Met as begin-thm
+use Rattle.headers.specs.Headers.{kindsFrom, headersIn, indexBytes, entrySize}
+use Rattle.headers.specs.States.{fresh, stateBehind, Walkable}
+use Rattle.headers.specs.declared.state.IndexState.{IndexState}
+use Rattle.headers.proofs.state.IndexState as T
+use Rattle.headers.proofs.state.IndexState.Laws as T′
+use Rattle.headers.proofs.state.begin as begin
+use Rattle.headers.proofs.state.begin.Symbol as begin-def
+use Rattle.headers.proofs.state.begin.Symbol.{name as #headers·state·begin}
+use Rattle.headers.proofs.state.begin.Met as begin-thm
 use Rattle.index.proofs.walked.walk as walk
 use Rattle.index.proofs.walked.walk.Symbol as walk-def
 use Rattle.index.proofs.walked.walk.Symbol.{name as #index·walked·walk}
@@ -128,7 +128,7 @@ module _ {M : Type 1} (𝓤 : URA M) (H : Heap 𝓤) (A : Atoms 𝓤) (W : Given
       move ! (1 ∷ []) $ split ! $ nothing ! $ move ! (2 ∷ 0 ∷ []) $ fjoin ! $ owned ! usize (Is usize) (uint-makes 𝓤 H A W w64) n _ (refl, gn) $ fjoin ! $
       move ! (1 ∷ 0 ∷ []) $ fjoin ! $ move ! (1 ∷ 0 ∷ []) $ fjoin ! $ done !
 
-  module _ (C : Calls 𝓤 H) (Λ : Loops 𝓤 H) (fm : FmC 𝓤 H (W .laws) C) (known-begin : Triple 𝓤 (C #index·state·begin) (Begin 𝓤 H A at-mem run)) (known-walk : Triple 𝓤 (C #index·walked·walk) (Walk 𝓤 H A at-mem run)) where
+  module _ (C : Calls 𝓤 H) (Λ : Loops 𝓤 H) (fm : FmC 𝓤 H (W .laws) C) (known-begin : Triple 𝓤 (C #headers·state·begin) (Begin 𝓤 H A at-mem run)) (known-walk : Triple 𝓤 (C #index·walked·walk) (Walk 𝓤 H A at-mem run)) where
     walks : Room u32 (length (events .now)) → Room u8 (length (index .now)) → Walkable fresh (events .now) n (index .now)
         → ent 𝓤 (onEntry 𝓤 H A write.signature (κ₁, (κ₂, tt)) (q₁, (q₂, tt)) a at) (WpFn 𝓤 H C Λ code.function (slice events ∷ vint w64 n ∷ (slice index) ∷ []) Post)
     walks ge gi may =
@@ -180,14 +180,14 @@ module _ {M : Type 1} (𝓤 : URA M) (H : Heap 𝓤) (A : Atoms 𝓤) (W : Given
         keep ! (1 ∷ 7 ∷ 3 ∷ []) $ by ! (exits (ws .1 .1 .1 .0) (f .1) l))))))))))))))))))))))))
 
 module _ {M : Type 1} (𝓤 : URA M) (H : Heap 𝓤) (A : Atoms 𝓤) (W : Given 𝓤 H A) (at-mem : Memory → SProp 𝓤) (run : Routine → Fun 𝓤) where
-  write-walks : (C : Calls 𝓤 H) (Λ : Loops 𝓤 H) → FmC 𝓤 H (W .laws) C → Triple 𝓤 (C #index·state·begin) (Begin 𝓤 H A at-mem run) → Triple 𝓤 (C #index·walked·walk) (Walk 𝓤 H A at-mem run) → Walks 𝓤 H A write.ended stayed (WpFn 𝓤 H C Λ code.function) (write.clauses 𝓤 H A at-mem run)
+  write-walks : (C : Calls 𝓤 H) (Λ : Loops 𝓤 H) → FmC 𝓤 H (W .laws) C → Triple 𝓤 (C #headers·state·begin) (Begin 𝓤 H A at-mem run) → Triple 𝓤 (C #index·walked·walk) (Walk 𝓤 H A at-mem run) → Walks 𝓤 H A write.ended stayed (WpFn 𝓤 H C Λ code.function) (write.clauses 𝓤 H A at-mem run)
   write-walks C Λ fm known-begin known-walk = walked 𝓤 H A write.ended stayed (write.clauses 𝓤 H A at-mem run) (WpFn 𝓤 H C Λ code.function) (λ κs. (slice-vals, (uint-vals w64, (slice-vals, tt))))
       (λ κs. (shr-slice-tells (named 0) (κs .0) u32, (uint-tells w64, (mut-slice-tells (named 1) (κs .1 .0) u8, tt))))
       (λ κs qs bounds a g are. needs 𝓤 _ _
       (λ may. walks 𝓤 H A W at-mem run (κs .0) (κs .1 .0) (qs .0) (qs .1 .0) (a .0) (a .1 .0) (a .1 .1 .0) (are .1 .0 .1)
       C Λ fm known-begin known-walk (are .0 .0 .1) (are .1 .1 .0 .0 .1) may))
 
-write-meets : {M : Type 1} (𝓤 : URA M) (H : Heap 𝓤) (A : Atoms 𝓤) → Given 𝓤 H A → (at-mem : Memory → SProp 𝓤) (run : Routine → Fun 𝓤) (𝓣 : Tables 𝓤 H) → Triple 𝓤 (𝓣 .C #index·state·begin) (Begin 𝓤 H A at-mem run) → Triple 𝓤 (𝓣 .C #index·walked·walk) (Walk 𝓤 H A at-mem run)
+write-meets : {M : Type 1} (𝓤 : URA M) (H : Heap 𝓤) (A : Atoms 𝓤) → Given 𝓤 H A → (at-mem : Memory → SProp 𝓤) (run : Routine → Fun 𝓤) (𝓣 : Tables 𝓤 H) → Triple 𝓤 (𝓣 .C #headers·state·begin) (Begin 𝓤 H A at-mem run) → Triple 𝓤 (𝓣 .C #index·walked·walk) (Walk 𝓤 H A at-mem run)
     → Meets 𝓤 H A write.signature (WpFn 𝓤 H (𝓣 .C) (𝓣 .Λ) code.function) (write.spec 𝓤 H A at-mem run)
 write-meets 𝓤 H A W at-mem run 𝓣 known-begin known-walk =
     walk-meets 𝓤 H A write.ended stayed W
@@ -200,5 +200,5 @@ write-index-spec 𝓤 H 𝓜 𝓖 𝓡 =
     entered 𝓤 H (tripleOf 𝓤 H (𝓖 .A) write.signature (write.spec 𝓤 H (𝓖 .A) (𝓜 .mem) (𝓡 .run)))
     (tables 𝓤 H 𝓜 𝓡 code.env .C) (tables 𝓤 H 𝓜 𝓡 code.env .Λ) #index·write-index code.function (code.unfolded 𝓤 H 𝓜 𝓡)
     (write-meets 𝓤 H (𝓖 .A) (givenOf 𝓤 H 𝓜 𝓖) (𝓜 .mem) (𝓡 .run) (tablesOf 𝓤 H 𝓜 (tables 𝓤 H 𝓜 𝓡 code.env))
-    (cited 𝓤 H (Begin 𝓤 H (𝓖 .A) (𝓜 .mem) (𝓡 .run)) 𝓜 𝓡 code.env #index·state·begin begin-def.routine code.calls-index·state·begin (begin-thm.met 𝓤 H 𝓜 𝓖 𝓡))
+    (cited 𝓤 H (Begin 𝓤 H (𝓖 .A) (𝓜 .mem) (𝓡 .run)) 𝓜 𝓡 code.env #headers·state·begin begin-def.routine code.calls-headers·state·begin (begin-thm.met 𝓤 H 𝓜 𝓖 𝓡))
     (cited 𝓤 H (Walk 𝓤 H (𝓖 .A) (𝓜 .mem) (𝓡 .run)) 𝓜 𝓡 code.env #index·walked·walk walk-def.routine code.calls-index·walked·walk (walk-thm.met 𝓤 H 𝓜 𝓖 𝓡)))

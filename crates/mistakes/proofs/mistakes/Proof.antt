@@ -1,7 +1,7 @@
 -- The run's own refusal, then the records', else the list.
 -- Made by ./proofs from Proof.tmpl: change that.
 use mathlib.Core.Path.{sym, _∙_}
-use Rattle.mistakes.proofs.OutcomeLaws.{answered, run-refused, records-refused, records-passed}
+use Rattle.mistake_rules.proofs.OutcomeLaws.{answered, run-refused, records-refused, records-passed}
 use borrow.Author.Needs.{needs}
 use Rattle.mistakes.proofs.mistakes.Statement.{statement}
 use Rattle.mistakes.proofs.mistakes.Tie as tie

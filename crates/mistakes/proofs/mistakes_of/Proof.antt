@@ -4,7 +4,7 @@ use native.Mathlib.Omega.{arith}
 use mathlib.Core.Path.{_∙_}
 use Rattle.token.specs.Tokens.{allTokens}
 use Rattle.token.specs.CheckLaws.{checked-passes, passed-laid}
-use Rattle.mistakes.proofs.OutcomeLaws.{passed-end, answered, events-short, errors-short, mistakes-short, mistakes-held}
+use Rattle.mistake_rules.proofs.OutcomeLaws.{passed-end, answered, events-short, errors-short, mistakes-short, mistakes-held}
 use borrow.Author.Needs.{needs}
 use Rattle.mistakes.proofs.mistakes_of.Statement.{statement}
 use Rattle.mistakes.proofs.mistakes_of.Tie as tie

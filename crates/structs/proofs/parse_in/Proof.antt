@@ -43,7 +43,7 @@ use Rattle.rules.specs.declared.answer.Answer.{Answer}
 use Rattle.rules.specs.Entries.{documentEntry}
 use Rattle.rules.proofs.answer.Answer as R
 use Rattle.rules.proofs.answer.Answer.Laws as R′
-use Rattle.entries.specs.Modes.{AnswersIn}
+use Rattle.choices.specs.Modes.{AnswersIn}
 use Rattle.structs.specs.Structs.{recordsOf}
 use Rattle.structs.specs.declared.Token.{Token}
 use Rattle.structs.proofs.StructLaws.{first-records}

@@ -5,7 +5,7 @@ use Prim.Native.Nat.{_*_}
 use native.Mathlib.Omega.{arith}
 use lib.Seq.{length-take-le}
 use Rattle.rules.specs.Entries.{documentEntry}
-use Rattle.entries.specs.ModeLaws.{known-answers, unknown-answers}
+use Rattle.choices.specs.ModeLaws.{known-answers, unknown-answers}
 use borrow.Author.Needs.{needs}
 use Rattle.structs.proofs.parse_records.Statement.{statement}
 use Rattle.structs.proofs.parse_records.Tie as tie

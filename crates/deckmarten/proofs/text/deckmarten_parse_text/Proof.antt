@@ -1,7 +1,6 @@
 -- The C structure holds the joined entry's answer, or that to an unknown mode.
 -- Made by ./proofs from Proof.tmpl: change that.
-use mathlib.Core.Path.{refl}
-use Rattle.deckmarten.proofs.TextExportLaws.{exports-text, exports-unknown}
+use Rattle.exports.specs.TextExportLaws.{exports-text, exports-unknown}
 use borrow.Author.Needs.{needs}
 use Rattle.deckmarten.proofs.text.deckmarten_parse_text.Statement.{statement}
 use Rattle.deckmarten.proofs.text.deckmarten_parse_text.Tie as tie
@@ -21,6 +20,9 @@ exported-text-requires c κs = search needs
 enum-told : tie.Need-enum-told
 enum-told c = search needs
 
+exported-unknown-requires : tie.Need-exported-unknown-requires
+exported-unknown-requires c κs = search needs
+
 same-length : tie.Need-same-length
 same-length c = search needs
 
@@ -34,7 +36,7 @@ returns : tie.Need-returns
 returns c = exports-text ((c .before .before .before .before .before .before .before .before .before .before .before .before .before .before .before .before .before .before .before .args) .options .mode) ((c .before .before .before .before .before .before .before .before .before .before .before .before .before .before .before .before .before .before .before .args) .text .now) ((c .before .before .before .before .before .before .before .before .before .before .before .before .before .before .before .before .before .before .before .args) .records .now) ((c .before .before .before .before .before .before .before .before .before .before .before .before .before .before .before .before .before .before .before .args) .events .now) ((c .before .before .before .before .before .before .before .before .before .before .before .before .before .before .before .before .before .before .before .args) .errors .now) _ ((c .before .before .before .before .before .before .before .before .before .before .before .before .before .before .choose) .ensures) _ _ _ _ _ _ ((c .before .before .before .before .before .before .before .before .before .before .before .before .choice) .given .1) ((c .exported-text) .ensures) ((c .before .before .before .before .before .before .before .parse-text) .ensures)
 
 returns-2 : tie.Need-returns-2
-returns-2 c = exports-unknown ((c .before .before .before .before .before .before .before .args) .options .mode) ((c .before .before .before .before .before .before .before .args) .text .now) ((c .before .before .before .before .before .before .before .args) .records .now) ((c .before .before .before .before .before .before .before .args) .events .now) ((c .before .before .before .before .before .before .before .args) .errors .now) _ ((c .before .before .choose) .ensures) _ ((c .enum-told) .given .1) refl
+returns-2 c = exports-unknown ((c .before .before .before .before .before .before .before .before .args) .options .mode) ((c .before .before .before .before .before .before .before .before .args) .text .now) ((c .before .before .before .before .before .before .before .before .args) .records .now) ((c .before .before .before .before .before .before .before .before .args) .events .now) ((c .before .before .before .before .before .before .before .before .args) .errors .now) _ ((c .before .before .before .choose) .ensures) _ ((c .before .enum-told) .given .1) ((c .exported-unknown) .ensures)
 
 pub deckmarten-parse-text-spec : {M : Type 1} → statement M
 deckmarten-parse-text-spec =
@@ -45,6 +47,7 @@ deckmarten-parse-text-spec =
     parse-text-requires
     exported-text-requires
     enum-told
+    exported-unknown-requires
     same-length
     same-length-2
     same-length-3

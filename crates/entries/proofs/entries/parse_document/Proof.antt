@@ -1,7 +1,7 @@
 -- A list that the check refuses is not read; else it is what the walk promises.
 -- Made by ./proofs from Proof.tmpl: change that.
 use Rattle.rules.specs.Entries.{documentEntry}
-use Rattle.entries.proofs.EntryLaws.{begun-refused, begun-start}
+use Rattle.entry_steps.proofs.EntryLaws.{begun-refused, begun-start}
 use borrow.Author.Needs.{needs}
 use Rattle.entries.proofs.entries.parse_document.Statement.{statement}
 use Rattle.entries.proofs.entries.parse_document.Tie as tie

@@ -4,7 +4,7 @@ use mathlib.Core.Path.{refl}
 use Rattle.rules.specs.Entries.{valueEntry}
 use Rattle.rules.specs.Limits.{maxDepth}
 use Rattle.rules.specs.Value.{value}
-use Rattle.entries.proofs.EntryLaws.{begun-refused, begun-start, start-good, still-passed, entered}
+use Rattle.entry_steps.proofs.EntryLaws.{begun-refused, begun-start, start-good, still-passed, entered}
 use borrow.Author.Needs.{needs}
 use Rattle.entries.proofs.entries.parse_value.Statement.{statement}
 use Rattle.entries.proofs.entries.parse_value.Tie as tie

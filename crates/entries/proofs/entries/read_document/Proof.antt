@@ -4,7 +4,7 @@ use mathlib.Core.Path.{refl}
 use Rattle.rules.specs.Entries.{documentEntry}
 use Rattle.rules.specs.Limits.{maxDepth}
 use Rattle.rules.specs.Document.{document}
-use Rattle.entries.proofs.EntryLaws.{start-good, still-passed, entered}
+use Rattle.entry_steps.proofs.EntryLaws.{start-good, still-passed, entered}
 use borrow.Author.Needs.{needs}
 use Rattle.entries.proofs.entries.read_document.Statement.{statement}
 use Rattle.entries.proofs.entries.read_document.Tie as tie

@@ -1,6 +1,6 @@
 -- `finish`, by the test of the kind.
 -- Made by ./proofs from Proof.tmpl: change that.
-use Rattle.index.specs.Headers.{opensHeader}
+use Rattle.headers.specs.Headers.{opensHeader}
 use Rattle.index.proofs.WalkLaws.{opens-fits, opens-writes}
 use borrow.Author.Needs.{needs}
 use Rattle.index.proofs.walked.finish_before.Statement.{statement}

@@ -49,23 +49,23 @@ use denote.Triple.Clauses.{ensured, lasts}
 use denote.Triple.Table.{entered, cited}
 use denote.Triple.Walked.{says, needs, Stays, stay-ref, stay-none, stay-none-slice, stay-slice, walkOf, Walks, ends-at, walked, goes-ref, goes-none, goes-none-slice, goes-slice, walk-meets}
 use Rattle.rules.specs.Answer.{eventSize}
-use Rattle.index.specs.Headers.{opensHeader, kindsFrom, headersIn, indexBytes, entrySize}
-use Rattle.index.specs.States.{stateAfter, stateBehind, Finished, Walkable}
-use Rattle.index.specs.declared.state.IndexState.{IndexState}
+use Rattle.headers.specs.Headers.{opensHeader, kindsFrom, headersIn, indexBytes, entrySize}
+use Rattle.headers.specs.States.{stateAfter, stateBehind, Finished, Walkable}
+use Rattle.headers.specs.declared.state.IndexState.{IndexState}
 use Rattle.index.proofs.Again.{LentAgain, lends-again, comes-back}
-use Rattle.index.proofs.CountLaws.{event-held}
+use Rattle.headers.proofs.CountLaws.{event-held}
 use Rattle.index.proofs.walked.WalkCalls.{slice, mach, typed-word, typed-half, KindAt, Before, Note, Last, Known, to-kind, to-before, to-note, to-last, kind-of, goes-kind, goes-before, goes-note, goes-last}
 use Rattle.index.proofs.WalkLaws.{Walking, walking-begun, turn-fits, walking-on, last-fits, walking-end, end-state}
-use Rattle.index.proofs.state.IndexState as T
-use Rattle.index.proofs.state.IndexState.Laws as T′
-use Rattle.index.proofs.state.kind_at as kind
-use Rattle.index.proofs.state.kind_at.Symbol as kind-def
-use Rattle.index.proofs.state.kind_at.Symbol.{name as #index·state·kind-at}
-use Rattle.index.proofs.state.kind_at.Met as kind-thm
-use Rattle.index.proofs.state.note as note
-use Rattle.index.proofs.state.note.Symbol as note-def
-use Rattle.index.proofs.state.note.Symbol.{name as #index·state·note}
-use Rattle.index.proofs.state.note.Met as note-thm
+use Rattle.headers.proofs.state.IndexState as T
+use Rattle.headers.proofs.state.IndexState.Laws as T′
+use Rattle.headers.proofs.state.kind_at as kind
+use Rattle.headers.proofs.state.kind_at.Symbol as kind-def
+use Rattle.headers.proofs.state.kind_at.Symbol.{name as #headers·state·kind-at}
+use Rattle.headers.proofs.state.kind_at.Met as kind-thm
+use Rattle.headers.proofs.state.note as note
+use Rattle.headers.proofs.state.note.Symbol as note-def
+use Rattle.headers.proofs.state.note.Symbol.{name as #headers·state·note}
+use Rattle.headers.proofs.state.note.Met as note-thm
 use Rattle.index.proofs.walked.finish_before as before
 use Rattle.index.proofs.walked.finish_before.Symbol as before-def
 use Rattle.index.proofs.walked.finish_before.Symbol.{name as #index·walked·finish-before}
@@ -355,8 +355,8 @@ walk-spec 𝓤 H 𝓜 𝓖 𝓡 =
     (tables 𝓤 H 𝓜 𝓡 code.env .C) (tables 𝓤 H 𝓜 𝓡 code.env .Λ) #index·walked·walk code.function (code.unfolded 𝓤 H 𝓜 𝓡)
     (walk-meets-contract 𝓤 H (𝓖 .A) (givenOf 𝓤 H 𝓜 𝓖) (𝓜 .mem) (𝓡 .run) (tablesOf 𝓤 H 𝓜 (tables 𝓤 H 𝓜 𝓡 code.env))
     (record {
-      kind-at = cited 𝓤 H (KindAt 𝓤 H (𝓖 .A) (𝓜 .mem) (𝓡 .run)) 𝓜 𝓡 code.env #index·state·kind-at kind-def.routine code.calls-index·state·kind-at (kind-thm.met 𝓤 H 𝓜 𝓖 𝓡);
+      kind-at = cited 𝓤 H (KindAt 𝓤 H (𝓖 .A) (𝓜 .mem) (𝓡 .run)) 𝓜 𝓡 code.env #headers·state·kind-at kind-def.routine code.calls-headers·state·kind-at (kind-thm.met 𝓤 H 𝓜 𝓖 𝓡);
       before = cited 𝓤 H (Before 𝓤 H (𝓖 .A) (𝓜 .mem) (𝓡 .run)) 𝓜 𝓡 code.env #index·walked·finish-before before-def.routine code.calls-index·walked·finish-before (before-thm.met 𝓤 H 𝓜 𝓖 𝓡);
-      note = cited 𝓤 H (Note 𝓤 H (𝓖 .A) (𝓜 .mem) (𝓡 .run)) 𝓜 𝓡 code.env #index·state·note note-def.routine code.calls-index·state·note (note-thm.met 𝓤 H 𝓜 𝓖 𝓡);
+      note = cited 𝓤 H (Note 𝓤 H (𝓖 .A) (𝓜 .mem) (𝓡 .run)) 𝓜 𝓡 code.env #headers·state·note note-def.routine code.calls-headers·state·note (note-thm.met 𝓤 H 𝓜 𝓖 𝓡);
       last = cited 𝓤 H (Last 𝓤 H (𝓖 .A) (𝓜 .mem) (𝓡 .run)) 𝓜 𝓡 code.env #index·walked·finish last-def.routine code.calls-index·walked·finish (last-thm.met 𝓤 H 𝓜 𝓖 𝓡);
     }))

@@ -14,7 +14,7 @@ use Rattle.rules.specs.InlineTable.{inlineTableTurn}
 use Rattle.rules.specs.Nest.{onOpen}
 use Rattle.output.specs.Pour.{bufs}
 use Rattle.output.specs.TurnLaws.{Turns, turns-begun}
-use Rattle.inline_parts.specs.Parts.{actionTable}
+use Rattle.inline_actions.specs.Actions.{actionTable}
 use Rattle.nest.specs.NestedLaws.{nested-item, nested-as}
 use Rattle.nest.proofs.StackLaws.{Stacked, stack-begun, stack-moved, stack-over-moved, stack-array-moved, stack-table-moved, stack-next, stack-over, stack-pop, stack-push, stack-none, stack-array-again, stack-array-stop, stack-table-again, stack-table-stop}
 use Rattle.nest.proofs.NestLaws.{turn-moved, turn-next, turn-over, array-moved, table-moved, array-again, array-stop, table-again, table-stop, open-array, open-table, no-level}
@@ -27,7 +27,7 @@ use Rattle.nest.proofs.nest.+on_array_open+on_inline_table_open.Lts-on_
 use Rattle.nest.proofs.nest.on_inline_table_open.Reads as on-inline-table-open
 use Rattle.nest.proofs.nest.on_inline_table_open.Kinds as on-inline-table-open-kinds
 use Rattle.nest.proofs.nest.+on_array_open+on_inline_table_open.Lts-on_inline_table_open as on-inline-table-open-lts
-use Rattle.inline_parts.proofs.actions.action_table.Reads as action-table-reads
+use Rattle.inline_actions.proofs.action_table.Reads as action-table-reads
 use Rattle.inline_turns.proofs.inline_table.inline_table_turn.Reads as inline-table-turn-reads
 use Rattle.nest.proofs.turns.array_turns.Reads as array-turns-reads
 use Rattle.output.proofs.emitting.emit.Reads as emit-reads
@@ -142,7 +142,7 @@ on-array-open-loop-less : (t : ℕ) → on-array-open-lts.Need-loop-less (
   on-inline-table-open-below t,
   on-inline-table-open.Post,
 ) (on-array-open-at t) on-array-open.Post on-array-open-Inv-loop on-array-open-μ-loop
-on-array-open-loop-less t c = omega (arith, stack-moved ((c .before .before .before .before .before .before .before .before .before .before .before .loop) .inv .0) _ ((c .before .before .before .before .before .before .before .before .array-turns) .ensures) ((c .enum-told) .given .1), (c .before .before .before .before .before .before .before .before .array-turns) .ensures .good .low)
+on-array-open-loop-less t c = omega (arith, stack-moved ((c .before .before .before .before .before .before .before .before .before .before .before .before .loop) .inv .0) _ ((c .before .before .before .before .before .before .before .before .before .array-turns) .ensures) ((c .enum-told) .given .1), (c .before .before .before .before .before .before .before .before .before .array-turns) .ensures .good .low)
 
 on-array-open-loop-again : (t : ℕ) → on-array-open-lts.Need-loop-again (
   emit-reads.Asked,
@@ -154,7 +154,7 @@ on-array-open-loop-again : (t : ℕ) → on-array-open-lts.Need-loop-again (
   on-inline-table-open-below t,
   on-inline-table-open.Post,
 ) (on-array-open-at t) on-array-open.Post on-array-open-Inv-loop on-array-open-μ-loop
-on-array-open-loop-again t c = (stack-next ((c .before .before .before .before .before .before .before .before .before .before .before .loop) .inv .0) _ ((c .before .before .before .before .before .before .before .before .array-turns) .ensures) ((c .enum-told) .given .1), (c .before .before .before .before .before .before .before .before .before .before .before .loop) .inv .1, (c .before .before .before .before .before .before .before .before .before .before .before .loop) .inv .2, ((c .before .before .before .before .before .before .before .before .array-turns .kept .1 .1 .1 .1 .1 .0)) ∙ (c .before .before .before .before .before .before .before .before .before .before .before .loop) .inv .3, ((c .before .before .before .before .before .before .before .before .array-turns .kept .1 .1 .1 .1 .1 .1 .0)) ∙ (c .before .before .before .before .before .before .before .before .before .before .before .loop) .inv .4, omega (arith, (c .before .before .before .before .before .before .before .before .before .before .before .loop) .inv .5))
+on-array-open-loop-again t c = (stack-next ((c .before .before .before .before .before .before .before .before .before .before .before .before .loop) .inv .0) _ ((c .before .before .before .before .before .before .before .before .before .array-turns) .ensures) ((c .enum-told) .given .1), (c .before .before .before .before .before .before .before .before .before .before .before .before .loop) .inv .1, (c .before .before .before .before .before .before .before .before .before .before .before .before .loop) .inv .2, ((c .before .before .before .before .before .before .before .before .before .array-turns .kept .1 .1 .1 .1 .1 .0)) ∙ (c .before .before .before .before .before .before .before .before .before .before .before .before .loop) .inv .3, ((c .before .before .before .before .before .before .before .before .before .array-turns .kept .1 .1 .1 .1 .1 .1 .0)) ∙ (c .before .before .before .before .before .before .before .before .before .before .before .before .loop) .inv .4, omega (arith, (c .before .before .before .before .before .before .before .before .before .before .before .before .loop) .inv .5))
 
 on-array-open-enum-told-2 : (t : ℕ) → on-array-open-lts.Need-enum-told-2 (
   emit-reads.Asked,
@@ -178,7 +178,7 @@ on-array-open-same-length : (t : ℕ) → on-array-open-lts.Need-same-length (
   on-inline-table-open-below t,
   on-inline-table-open.Post,
 ) (on-array-open-at t) on-array-open.Post on-array-open-Inv-loop on-array-open-μ-loop
-on-array-open-same-length t c = ((c .before .before .before .before .before .before .before .before .before .array-turns .kept .1 .1 .1 .1 .1 .0)) ∙ (c .before .before .before .before .before .before .before .before .before .before .before .before .loop) .inv .3 ∙ (c .before .before .before .before .before .before .before .before .before .before .before .before .before .before .before .emit) .kept .0
+on-array-open-same-length t c = ((c .before .before .before .before .before .before .before .before .before .before .array-turns .kept .1 .1 .1 .1 .1 .0)) ∙ (c .before .before .before .before .before .before .before .before .before .before .before .before .before .loop) .inv .3 ∙ (c .before .before .before .before .before .before .before .before .before .before .before .before .before .before .before .before .emit) .kept .0
 
 on-array-open-same-length-2 : (t : ℕ) → on-array-open-lts.Need-same-length-2 (
   emit-reads.Asked,
@@ -190,7 +190,7 @@ on-array-open-same-length-2 : (t : ℕ) → on-array-open-lts.Need-same-length-2
   on-inline-table-open-below t,
   on-inline-table-open.Post,
 ) (on-array-open-at t) on-array-open.Post on-array-open-Inv-loop on-array-open-μ-loop
-on-array-open-same-length-2 t c = ((c .before .before .before .before .before .before .before .before .before .array-turns .kept .1 .1 .1 .1 .1 .1 .0)) ∙ (c .before .before .before .before .before .before .before .before .before .before .before .before .loop) .inv .4
+on-array-open-same-length-2 t c = ((c .before .before .before .before .before .before .before .before .before .before .array-turns .kept .1 .1 .1 .1 .1 .1 .0)) ∙ (c .before .before .before .before .before .before .before .before .before .before .before .before .before .loop) .inv .4
 
 on-array-open-returns-2 : (t : ℕ) → on-array-open-lts.Need-returns-2 (
   emit-reads.Asked,
@@ -202,7 +202,7 @@ on-array-open-returns-2 : (t : ℕ) → on-array-open-lts.Need-returns-2 (
   on-inline-table-open-below t,
   on-inline-table-open.Post,
 ) (on-array-open-at t) on-array-open.Post on-array-open-Inv-loop on-array-open-μ-loop
-on-array-open-returns-2 t c = nested-as (open-array ((c .before .before .before .before .before .before .before .before .before .before .before .before .before .before .before .before .before .before .before .before .before .before .args) .settings .levels) _ _ _ ((c .before .before .before .before .before .before .before .before .before .before .before .before .before .before .before .before .before .if1) .left)) (nested-item _ _ (λ all. (c .before .before .before .before .before .before .before .before .before .before .before .before .before .before .before .emit) .ensures all _) (stack-over ((c .before .before .before .before .before .before .before .before .before .before .before .before .loop) .inv .0) _ ((c .before .before .before .before .before .before .before .before .before .array-turns) .ensures) ((c .before .enum-told2) .given .1) ((c .if2) .taken)))
+on-array-open-returns-2 t c = nested-as (open-array ((c .before .before .before .before .before .before .before .before .before .before .before .before .before .before .before .before .before .before .before .before .before .before .before .args) .settings .levels) _ _ _ ((c .before .before .before .before .before .before .before .before .before .before .before .before .before .before .before .before .before .before .if1) .left)) (nested-item _ _ (λ all. (c .before .before .before .before .before .before .before .before .before .before .before .before .before .before .before .before .emit) .ensures all _) (stack-over ((c .before .before .before .before .before .before .before .before .before .before .before .before .before .loop) .inv .0) _ ((c .before .before .before .before .before .before .before .before .before .before .array-turns) .ensures) ((c .before .enum-told2) .given .1) ((c .if2) .taken)))
 
 on-array-open-sub-depth : (t : ℕ) → on-array-open-lts.Need-sub-depth (
   emit-reads.Asked,
@@ -226,9 +226,9 @@ on-array-open-add-left : (t : ℕ) → on-array-open-lts.Need-add-left (
   on-inline-table-open-below t,
   on-inline-table-open.Post,
 ) (on-array-open-at t) on-array-open.Post on-array-open-Inv-loop on-array-open-μ-loop
-on-array-open-add-left t c = omega (arith, ((c .before .before .before .before .before .before .before .before .before .before .before .before .loop) .inv .0) .sum, (c .if2) .left, (c .before .before .before .before .before .before .before .before .before .before .before .before .before .before .before .before .before .before .before .before .before .before .good))
+on-array-open-add-left t c = omega (arith, ((c .before .before .before .before .before .before .before .before .before .before .before .before .before .loop) .inv .0) .sum, (c .if2) .left, (c .before .before .before .before .before .before .before .before .before .before .before .before .before .before .before .before .before .before .before .before .before .before .before .good))
 
-on-array-open-mul-t44 : (t : ℕ) → on-array-open-lts.Need-mul-t44 (
+on-array-open-mul-t45 : (t : ℕ) → on-array-open-lts.Need-mul-t45 (
   emit-reads.Asked,
   emit-reads.Learnt,
   array-turns-reads.Asked,
@@ -238,9 +238,9 @@ on-array-open-mul-t44 : (t : ℕ) → on-array-open-lts.Need-mul-t44 (
   on-inline-table-open-below t,
   on-inline-table-open.Post,
 ) (on-array-open-at t) on-array-open.Post on-array-open-Inv-loop on-array-open-μ-loop
-on-array-open-mul-t44 t c = record { fits = omega (arith, (c .before .before .before .before .before .before .before .before .before .before .before .before .loop) .inv .5) }
+on-array-open-mul-t45 t c = record { fits = omega (arith, (c .before .before .before .before .before .before .before .before .before .before .before .before .before .loop) .inv .5) }
 
-on-array-open-array-read-t47 : (t : ℕ) → on-array-open-lts.Need-array-read-t47 (
+on-array-open-array-read-t48 : (t : ℕ) → on-array-open-lts.Need-array-read-t48 (
   emit-reads.Asked,
   emit-reads.Learnt,
   array-turns-reads.Asked,
@@ -250,9 +250,9 @@ on-array-open-array-read-t47 : (t : ℕ) → on-array-open-lts.Need-array-read-t
   on-inline-table-open-below t,
   on-inline-table-open.Post,
 ) (on-array-open-at t) on-array-open.Post on-array-open-Inv-loop on-array-open-μ-loop
-on-array-open-array-read-t47 t c = omega (arith, (c .before .before .before .before .before .before .before .before .before .before .before .before .loop) .inv .5, (c .if2) .left)
+on-array-open-array-read-t48 t c = omega (arith, (c .before .before .before .before .before .before .before .before .before .before .before .before .before .loop) .inv .5, (c .if2) .left)
 
-on-array-open-mul-t48 : (t : ℕ) → on-array-open-lts.Need-mul-t48 (
+on-array-open-mul-t49 : (t : ℕ) → on-array-open-lts.Need-mul-t49 (
   emit-reads.Asked,
   emit-reads.Learnt,
   array-turns-reads.Asked,
@@ -262,9 +262,9 @@ on-array-open-mul-t48 : (t : ℕ) → on-array-open-lts.Need-mul-t48 (
   on-inline-table-open-below t,
   on-inline-table-open.Post,
 ) (on-array-open-at t) on-array-open.Post on-array-open-Inv-loop on-array-open-μ-loop
-on-array-open-mul-t48 t c = record { fits = omega (arith, (c .before .before .before .before .before .before .before .before .before .before .before .before .loop) .inv .5) }
+on-array-open-mul-t49 t c = record { fits = omega (arith, (c .before .before .before .before .before .before .before .before .before .before .before .before .before .loop) .inv .5) }
 
-on-array-open-array-read-t51 : (t : ℕ) → on-array-open-lts.Need-array-read-t51 (
+on-array-open-array-read-t52 : (t : ℕ) → on-array-open-lts.Need-array-read-t52 (
   emit-reads.Asked,
   emit-reads.Learnt,
   array-turns-reads.Asked,
@@ -274,7 +274,7 @@ on-array-open-array-read-t51 : (t : ℕ) → on-array-open-lts.Need-array-read-t
   on-inline-table-open-below t,
   on-inline-table-open.Post,
 ) (on-array-open-at t) on-array-open.Post on-array-open-Inv-loop on-array-open-μ-loop
-on-array-open-array-read-t51 t c = omega (arith, (c .before .before .before .before .before .before .before .before .before .before .before .before .loop) .inv .5, (c .if2) .left)
+on-array-open-array-read-t52 t c = omega (arith, (c .before .before .before .before .before .before .before .before .before .before .before .before .before .loop) .inv .5, (c .if2) .left)
 
 on-array-open-loop-less-2 : (t : ℕ) → on-array-open-lts.Need-loop-less-2 (
   emit-reads.Asked,
@@ -286,7 +286,7 @@ on-array-open-loop-less-2 : (t : ℕ) → on-array-open-lts.Need-loop-less-2 (
   on-inline-table-open-below t,
   on-inline-table-open.Post,
 ) (on-array-open-at t) on-array-open.Post on-array-open-Inv-loop on-array-open-μ-loop
-on-array-open-loop-less-2 t c = omega (arith, stack-over-moved ((c .before .before .before .before .before .before .before .before .before .before .before .before .loop) .inv .0) _ ((c .before .before .before .before .before .before .before .before .before .array-turns) .ensures) ((c .before .enum-told2) .given .1), (c .before .before .before .before .before .before .before .before .before .array-turns) .ensures .good .low, (c .if2) .left)
+on-array-open-loop-less-2 t c = omega (arith, stack-over-moved ((c .before .before .before .before .before .before .before .before .before .before .before .before .before .loop) .inv .0) _ ((c .before .before .before .before .before .before .before .before .before .before .array-turns) .ensures) ((c .before .enum-told2) .given .1), (c .before .before .before .before .before .before .before .before .before .before .array-turns) .ensures .good .low, (c .if2) .left)
 
 on-array-open-loop-again-2 : (t : ℕ) → on-array-open-lts.Need-loop-again-2 (
   emit-reads.Asked,
@@ -298,7 +298,7 @@ on-array-open-loop-again-2 : (t : ℕ) → on-array-open-lts.Need-loop-again-2 (
   on-inline-table-open-below t,
   on-inline-table-open.Post,
 ) (on-array-open-at t) on-array-open.Post on-array-open-Inv-loop on-array-open-μ-loop
-on-array-open-loop-again-2 t c = (stack-pop ((c .before .before .before .before .before .before .before .before .before .before .before .before .loop) .inv .0) _ ((c .before .before .before .before .before .before .before .before .before .array-turns) .ensures) ((c .before .enum-told2) .given .1) ((c .if2) .left), (c .before .before .before .before .before .before .before .before .before .before .before .before .loop) .inv .1, (c .before .before .before .before .before .before .before .before .before .before .before .before .loop) .inv .2, ((c .before .before .before .before .before .before .before .before .before .array-turns .kept .1 .1 .1 .1 .1 .0)) ∙ (c .before .before .before .before .before .before .before .before .before .before .before .before .loop) .inv .3, ((c .before .before .before .before .before .before .before .before .before .array-turns .kept .1 .1 .1 .1 .1 .1 .0)) ∙ (c .before .before .before .before .before .before .before .before .before .before .before .before .loop) .inv .4, omega (arith, (c .before .before .before .before .before .before .before .before .before .before .before .before .loop) .inv .5))
+on-array-open-loop-again-2 t c = (stack-pop ((c .before .before .before .before .before .before .before .before .before .before .before .before .before .loop) .inv .0) _ ((c .before .before .before .before .before .before .before .before .before .before .array-turns) .ensures) ((c .before .enum-told2) .given .1) ((c .if2) .left), (c .before .before .before .before .before .before .before .before .before .before .before .before .before .loop) .inv .1, (c .before .before .before .before .before .before .before .before .before .before .before .before .before .loop) .inv .2, ((c .before .before .before .before .before .before .before .before .before .before .array-turns .kept .1 .1 .1 .1 .1 .0)) ∙ (c .before .before .before .before .before .before .before .before .before .before .before .before .before .loop) .inv .3, ((c .before .before .before .before .before .before .before .before .before .before .array-turns .kept .1 .1 .1 .1 .1 .1 .0)) ∙ (c .before .before .before .before .before .before .before .before .before .before .before .before .before .loop) .inv .4, omega (arith, (c .before .before .before .before .before .before .before .before .before .before .before .before .before .loop) .inv .5))
 
 on-array-open-enum-known-x : (t : ℕ) → on-array-open-lts.Need-enum-known-x (
   emit-reads.Asked,
@@ -322,7 +322,7 @@ on-array-open-same-length-3 : (t : ℕ) → on-array-open-lts.Need-same-length-3
   on-inline-table-open-below t,
   on-inline-table-open.Post,
 ) (on-array-open-at t) on-array-open.Post on-array-open-Inv-loop on-array-open-μ-loop
-on-array-open-same-length-3 t c = ((c .before .before .before .before .before .before .before .before .before .before .array-turns .kept .1 .1 .1 .1 .1 .0)) ∙ (c .before .before .before .before .before .before .before .before .before .before .before .before .before .loop) .inv .3 ∙ (c .before .before .before .before .before .before .before .before .before .before .before .before .before .before .before .before .emit) .kept .0
+on-array-open-same-length-3 t c = ((c .before .before .before .before .before .before .before .before .before .before .before .array-turns .kept .1 .1 .1 .1 .1 .0)) ∙ (c .before .before .before .before .before .before .before .before .before .before .before .before .before .before .loop) .inv .3 ∙ (c .before .before .before .before .before .before .before .before .before .before .before .before .before .before .before .before .before .emit) .kept .0
 
 on-array-open-same-length-4 : (t : ℕ) → on-array-open-lts.Need-same-length-4 (
   emit-reads.Asked,
@@ -334,7 +334,7 @@ on-array-open-same-length-4 : (t : ℕ) → on-array-open-lts.Need-same-length-4
   on-inline-table-open-below t,
   on-inline-table-open.Post,
 ) (on-array-open-at t) on-array-open.Post on-array-open-Inv-loop on-array-open-μ-loop
-on-array-open-same-length-4 t c = ((c .before .before .before .before .before .before .before .before .before .before .array-turns .kept .1 .1 .1 .1 .1 .1 .0)) ∙ (c .before .before .before .before .before .before .before .before .before .before .before .before .before .loop) .inv .4
+on-array-open-same-length-4 t c = ((c .before .before .before .before .before .before .before .before .before .before .before .array-turns .kept .1 .1 .1 .1 .1 .1 .0)) ∙ (c .before .before .before .before .before .before .before .before .before .before .before .before .before .before .loop) .inv .4
 
 on-array-open-returns-3 : (t : ℕ) → on-array-open-lts.Need-returns-3 (
   emit-reads.Asked,
@@ -346,7 +346,7 @@ on-array-open-returns-3 : (t : ℕ) → on-array-open-lts.Need-returns-3 (
   on-inline-table-open-below t,
   on-inline-table-open.Post,
 ) (on-array-open-at t) on-array-open.Post on-array-open-Inv-loop on-array-open-μ-loop
-on-array-open-returns-3 t c = nested-as (open-array ((c .before .before .before .before .before .before .before .before .before .before .before .before .before .before .before .before .before .before .before .before .before .before .before .args) .settings .levels) _ _ _ ((c .before .before .before .before .before .before .before .before .before .before .before .before .before .before .before .before .before .before .if1) .left)) (nested-item _ _ (λ all. (c .before .before .before .before .before .before .before .before .before .before .before .before .before .before .before .before .emit) .ensures all _) (stack-none ((c .before .before .before .before .before .before .before .before .before .before .before .before .before .loop) .inv .0) _ ((c .before .before .before .before .before .before .before .before .before .before .array-turns) .ensures) _ ((c .before .before .x) .given .1) ((c .if3) .taken)))
+on-array-open-returns-3 t c = nested-as (open-array ((c .before .before .before .before .before .before .before .before .before .before .before .before .before .before .before .before .before .before .before .before .before .before .before .before .args) .settings .levels) _ _ _ ((c .before .before .before .before .before .before .before .before .before .before .before .before .before .before .before .before .before .before .before .if1) .left)) (nested-item _ _ (λ all. (c .before .before .before .before .before .before .before .before .before .before .before .before .before .before .before .before .before .emit) .ensures all _) (stack-none ((c .before .before .before .before .before .before .before .before .before .before .before .before .before .before .loop) .inv .0) _ ((c .before .before .before .before .before .before .before .before .before .before .before .array-turns) .ensures) _ ((c .before .before .x) .given .1) ((c .if3) .taken)))
 
 on-array-open-mul-starts : (t : ℕ) → on-array-open-lts.Need-mul-starts (
   emit-reads.Asked,
@@ -442,7 +442,7 @@ on-array-open-loop-less-3 : (t : ℕ) → on-array-open-lts.Need-loop-less-3 (
   on-inline-table-open-below t,
   on-inline-table-open.Post,
 ) (on-array-open-at t) on-array-open.Post on-array-open-Inv-loop on-array-open-μ-loop
-on-array-open-loop-less-3 t c = omega (arith, stack-array-moved ((c .before .before .before .before .before .before .before .before .before .before .before .before .before .before .before .before .before .before .loop) .inv .0) _ ((c .before .before .before .before .before .before .before .before .before .before .before .before .before .before .before .array-turns) .ensures) _ ((c .before .before .before .before .before .before .before .x) .given .1), (c .before .before .before .before .before .before .before .before .before .before .before .before .before .before .before .array-turns) .ensures .good .low)
+on-array-open-loop-less-3 t c = omega (arith, stack-array-moved ((c .before .before .before .before .before .before .before .before .before .before .before .before .before .before .before .before .before .before .before .loop) .inv .0) _ ((c .before .before .before .before .before .before .before .before .before .before .before .before .before .before .before .before .array-turns) .ensures) _ ((c .before .before .before .before .before .before .before .x) .given .1), (c .before .before .before .before .before .before .before .before .before .before .before .before .before .before .before .before .array-turns) .ensures .good .low)
 
 on-array-open-loop-again-3 : (t : ℕ) → on-array-open-lts.Need-loop-again-3 (
   emit-reads.Asked,
@@ -454,7 +454,7 @@ on-array-open-loop-again-3 : (t : ℕ) → on-array-open-lts.Need-loop-again-3 (
   on-inline-table-open-below t,
   on-inline-table-open.Post,
 ) (on-array-open-at t) on-array-open.Post on-array-open-Inv-loop on-array-open-μ-loop
-on-array-open-loop-again-3 t c = (stack-push ((c .before .before .before .before .before .before .before .before .before .before .before .before .before .before .before .before .before .before .loop) .inv .0) _ ((c .before .before .before .before .before .before .before .before .before .before .before .before .before .before .before .array-turns) .ensures) _ ((c .before .before .before .before .before .before .before .x) .given .1) ((c .before .before .before .before .before .if3) .left) (omega (arith, (c .before .before .before .before .if4) .taken, (c .before .before .before .before .before .before .before .before .before .before .before .before .before .before .before .before .before .before .loop) .inv .1)) (omega (arith, (c .before .before .before .before .if4) .taken, (c .before .before .before .before .before .before .before .before .before .before .before .before .before .before .before .before .before .before .loop) .inv .2)) _ (λ all. (c .before .before .emit2) .ensures all _), length-set ((c .before .before .before .before .before .before .before .before .before .before .before .before .before .before .before .before .before .before .loop) .starts) ((c .before .before .before .before .before .before .before .before .before .before .before .before .before .before .before .before .before .before .loop) .depth) ((c .before .before .before .before .before .before .before .before .before .before .before .before .before .before .before .before .before .before .loop) .inner .start) ∙ (c .before .before .before .before .before .before .before .before .before .before .before .before .before .before .before .before .before .before .loop) .inv .1, length-set ((c .before .before .before .before .before .before .before .before .before .before .before .before .before .before .before .before .before .before .loop) .ends) ((c .before .before .before .before .before .before .before .before .before .before .before .before .before .before .before .before .before .before .loop) .depth) ((c .before .before .before .before .before .before .before .before .before .before .before .before .before .before .before .before .before .before .loop) .inner .end) ∙ (c .before .before .before .before .before .before .before .before .before .before .before .before .before .before .before .before .before .before .loop) .inv .2, ((c .before .before .emit2 .kept .0) ∙ (c .before .before .before .before .before .before .before .before .before .before .before .before .before .before .before .array-turns .kept .1 .1 .1 .1 .1 .0)) ∙ (c .before .before .before .before .before .before .before .before .before .before .before .before .before .before .before .before .before .before .loop) .inv .3, ((c .before .before .before .before .before .before .before .before .before .before .before .before .before .before .before .array-turns .kept .1 .1 .1 .1 .1 .1 .0)) ∙ (c .before .before .before .before .before .before .before .before .before .before .before .before .before .before .before .before .before .before .loop) .inv .4, omega (arith, (c .before .before .before .before .if4) .taken))
+on-array-open-loop-again-3 t c = (stack-push ((c .before .before .before .before .before .before .before .before .before .before .before .before .before .before .before .before .before .before .before .loop) .inv .0) _ ((c .before .before .before .before .before .before .before .before .before .before .before .before .before .before .before .before .array-turns) .ensures) _ ((c .before .before .before .before .before .before .before .x) .given .1) ((c .before .before .before .before .before .if3) .left) (omega (arith, (c .before .before .before .before .if4) .taken, (c .before .before .before .before .before .before .before .before .before .before .before .before .before .before .before .before .before .before .before .loop) .inv .1)) (omega (arith, (c .before .before .before .before .if4) .taken, (c .before .before .before .before .before .before .before .before .before .before .before .before .before .before .before .before .before .before .before .loop) .inv .2)) _ (λ all. (c .before .before .emit2) .ensures all _), length-set ((c .before .before .before .before .before .before .before .before .before .before .before .before .before .before .before .before .before .before .before .loop) .starts) ((c .before .before .before .before .before .before .before .before .before .before .before .before .before .before .before .before .before .before .before .loop) .depth) ((c .before .before .before .before .before .before .before .before .before .before .before .before .before .before .before .before .before .before .before .loop) .inner .start) ∙ (c .before .before .before .before .before .before .before .before .before .before .before .before .before .before .before .before .before .before .before .loop) .inv .1, length-set ((c .before .before .before .before .before .before .before .before .before .before .before .before .before .before .before .before .before .before .before .loop) .ends) ((c .before .before .before .before .before .before .before .before .before .before .before .before .before .before .before .before .before .before .before .loop) .depth) ((c .before .before .before .before .before .before .before .before .before .before .before .before .before .before .before .before .before .before .before .loop) .inner .end) ∙ (c .before .before .before .before .before .before .before .before .before .before .before .before .before .before .before .before .before .before .before .loop) .inv .2, ((c .before .before .emit2 .kept .0) ∙ (c .before .before .before .before .before .before .before .before .before .before .before .before .before .before .before .before .array-turns .kept .1 .1 .1 .1 .1 .0)) ∙ (c .before .before .before .before .before .before .before .before .before .before .before .before .before .before .before .before .before .before .before .loop) .inv .3, ((c .before .before .before .before .before .before .before .before .before .before .before .before .before .before .before .before .array-turns .kept .1 .1 .1 .1 .1 .1 .0)) ∙ (c .before .before .before .before .before .before .before .before .before .before .before .before .before .before .before .before .before .before .before .loop) .inv .4, omega (arith, (c .before .before .before .before .if4) .taken))
 
 on-array-open-on-array-open-requires : (t : ℕ) → on-array-open-lts.Need-on-array-open-requires (
   emit-reads.Asked,
@@ -466,7 +466,7 @@ on-array-open-on-array-open-requires : (t : ℕ) → on-array-open-lts.Need-on-a
   on-inline-table-open-below t,
   on-inline-table-open.Post,
 ) (on-array-open-at t) on-array-open.Post on-array-open-Inv-loop on-array-open-μ-loop
-on-array-open-on-array-open-requires t c κs = (omega (arith, ((c .before .before .before .before .before .before .before .before .before .before .before .before .before .before .before .before .loop) .inv .0) .sum, (c .before .before .before .before .before .before .before .before .before .before .before .before .before .before .before .before .before .before .before .before .before .before .before .before .before .before .pre) .0), (c .before .before .before .before .before .before .before .before .before .before .before .before .before .array-turns) .ensures .good)
+on-array-open-on-array-open-requires t c κs = (omega (arith, ((c .before .before .before .before .before .before .before .before .before .before .before .before .before .before .before .before .before .loop) .inv .0) .sum, (c .before .before .before .before .before .before .before .before .before .before .before .before .before .before .before .before .before .before .before .before .before .before .before .before .before .before .before .pre) .0), (c .before .before .before .before .before .before .before .before .before .before .before .before .before .before .array-turns) .ensures .good)
 
 on-array-open-same-length-5 : (t : ℕ) → on-array-open-lts.Need-same-length-5 (
   emit-reads.Asked,
@@ -478,7 +478,7 @@ on-array-open-same-length-5 : (t : ℕ) → on-array-open-lts.Need-same-length-5
   on-inline-table-open-below t,
   on-inline-table-open.Post,
 ) (on-array-open-at t) on-array-open.Post on-array-open-Inv-loop on-array-open-μ-loop
-on-array-open-same-length-5 t c = ((c .before .before .before .before .before .on-array-open .kept .1 .1 .1 .1 .1 .0) ∙ (c .before .before .before .before .before .before .before .before .before .before .before .before .before .before .before .before .before .before .before .array-turns .kept .1 .1 .1 .1 .1 .0)) ∙ (c .before .before .before .before .before .before .before .before .before .before .before .before .before .before .before .before .before .before .before .before .before .before .loop) .inv .3 ∙ (c .before .before .before .before .before .before .before .before .before .before .before .before .before .before .before .before .before .before .before .before .before .before .before .before .before .emit) .kept .0
+on-array-open-same-length-5 t c = ((c .before .before .before .before .before .on-array-open .kept .1 .1 .1 .1 .1 .0) ∙ (c .before .before .before .before .before .before .before .before .before .before .before .before .before .before .before .before .before .before .before .before .array-turns .kept .1 .1 .1 .1 .1 .0)) ∙ (c .before .before .before .before .before .before .before .before .before .before .before .before .before .before .before .before .before .before .before .before .before .before .before .loop) .inv .3 ∙ (c .before .before .before .before .before .before .before .before .before .before .before .before .before .before .before .before .before .before .before .before .before .before .before .before .before .before .emit) .kept .0
 
 on-array-open-same-length-6 : (t : ℕ) → on-array-open-lts.Need-same-length-6 (
   emit-reads.Asked,
@@ -490,7 +490,7 @@ on-array-open-same-length-6 : (t : ℕ) → on-array-open-lts.Need-same-length-6
   on-inline-table-open-below t,
   on-inline-table-open.Post,
 ) (on-array-open-at t) on-array-open.Post on-array-open-Inv-loop on-array-open-μ-loop
-on-array-open-same-length-6 t c = ((c .before .before .before .before .before .on-array-open .kept .1 .1 .1 .1 .1 .1 .0) ∙ (c .before .before .before .before .before .before .before .before .before .before .before .before .before .before .before .before .before .before .before .array-turns .kept .1 .1 .1 .1 .1 .1 .0)) ∙ (c .before .before .before .before .before .before .before .before .before .before .before .before .before .before .before .before .before .before .before .before .before .before .loop) .inv .4
+on-array-open-same-length-6 t c = ((c .before .before .before .before .before .on-array-open .kept .1 .1 .1 .1 .1 .1 .0) ∙ (c .before .before .before .before .before .before .before .before .before .before .before .before .before .before .before .before .before .before .before .before .array-turns .kept .1 .1 .1 .1 .1 .1 .0)) ∙ (c .before .before .before .before .before .before .before .before .before .before .before .before .before .before .before .before .before .before .before .before .before .before .before .loop) .inv .4
 
 on-array-open-returns-4 : (t : ℕ) → on-array-open-lts.Need-returns-4 (
   emit-reads.Asked,
@@ -502,7 +502,7 @@ on-array-open-returns-4 : (t : ℕ) → on-array-open-lts.Need-returns-4 (
   on-inline-table-open-below t,
   on-inline-table-open.Post,
 ) (on-array-open-at t) on-array-open.Post on-array-open-Inv-loop on-array-open-μ-loop
-on-array-open-returns-4 t c = nested-as (open-array ((c .before .before .before .before .before .before .before .before .before .before .before .before .before .before .before .before .before .before .before .before .before .before .before .before .before .before .before .before .before .before .before .before .args) .settings .levels) _ _ _ ((c .before .before .before .before .before .before .before .before .before .before .before .before .before .before .before .before .before .before .before .before .before .before .before .before .before .before .before .if1) .left)) (nested-item _ _ (λ all. (c .before .before .before .before .before .before .before .before .before .before .before .before .before .before .before .before .before .before .before .before .before .before .before .before .before .emit) .ensures all _) (stack-array-stop ((c .before .before .before .before .before .before .before .before .before .before .before .before .before .before .before .before .before .before .before .before .before .before .loop) .inv .0) _ ((c .before .before .before .before .before .before .before .before .before .before .before .before .before .before .before .before .before .before .before .array-turns) .ensures) _ ((c .before .before .before .before .before .before .before .before .before .before .before .x) .given .1) ((c .before .before .before .before .before .on-array-open) .ensures) ((c .if5) .taken)))
+on-array-open-returns-4 t c = nested-as (open-array ((c .before .before .before .before .before .before .before .before .before .before .before .before .before .before .before .before .before .before .before .before .before .before .before .before .before .before .before .before .before .before .before .before .before .args) .settings .levels) _ _ _ ((c .before .before .before .before .before .before .before .before .before .before .before .before .before .before .before .before .before .before .before .before .before .before .before .before .before .before .before .before .if1) .left)) (nested-item _ _ (λ all. (c .before .before .before .before .before .before .before .before .before .before .before .before .before .before .before .before .before .before .before .before .before .before .before .before .before .before .emit) .ensures all _) (stack-array-stop ((c .before .before .before .before .before .before .before .before .before .before .before .before .before .before .before .before .before .before .before .before .before .before .before .loop) .inv .0) _ ((c .before .before .before .before .before .before .before .before .before .before .before .before .before .before .before .before .before .before .before .before .array-turns) .ensures) _ ((c .before .before .before .before .before .before .before .before .before .before .before .x) .given .1) ((c .before .before .before .before .before .on-array-open) .ensures) ((c .if5) .taken)))
 
 on-array-open-loop-less-4 : (t : ℕ) → on-array-open-lts.Need-loop-less-4 (
   emit-reads.Asked,
@@ -514,7 +514,7 @@ on-array-open-loop-less-4 : (t : ℕ) → on-array-open-lts.Need-loop-less-4 (
   on-inline-table-open-below t,
   on-inline-table-open.Post,
 ) (on-array-open-at t) on-array-open.Post on-array-open-Inv-loop on-array-open-μ-loop
-on-array-open-loop-less-4 t c = omega (arith, stack-array-moved ((c .before .before .before .before .before .before .before .before .before .before .before .before .before .before .before .before .before .before .before .before .before .before .before .before .loop) .inv .0) _ ((c .before .before .before .before .before .before .before .before .before .before .before .before .before .before .before .before .before .before .before .before .before .array-turns) .ensures) _ ((c .before .before .before .before .before .before .before .before .before .before .before .before .before .x) .given .1), (c .before .before .before .before .before .before .before .on-array-open) .ensures .on, (c .before .before .before .before .before .before .before .on-array-open) .ensures .good .low)
+on-array-open-loop-less-4 t c = omega (arith, stack-array-moved ((c .before .before .before .before .before .before .before .before .before .before .before .before .before .before .before .before .before .before .before .before .before .before .before .before .before .loop) .inv .0) _ ((c .before .before .before .before .before .before .before .before .before .before .before .before .before .before .before .before .before .before .before .before .before .before .array-turns) .ensures) _ ((c .before .before .before .before .before .before .before .before .before .before .before .before .before .x) .given .1), (c .before .before .before .before .before .before .before .on-array-open) .ensures .on, (c .before .before .before .before .before .before .before .on-array-open) .ensures .good .low)
 
 on-array-open-loop-again-4 : (t : ℕ) → on-array-open-lts.Need-loop-again-4 (
   emit-reads.Asked,
@@ -526,7 +526,7 @@ on-array-open-loop-again-4 : (t : ℕ) → on-array-open-lts.Need-loop-again-4 (
   on-inline-table-open-below t,
   on-inline-table-open.Post,
 ) (on-array-open-at t) on-array-open.Post on-array-open-Inv-loop on-array-open-μ-loop
-on-array-open-loop-again-4 t c = (stack-array-again ((c .before .before .before .before .before .before .before .before .before .before .before .before .before .before .before .before .before .before .before .before .before .before .before .before .loop) .inv .0) _ ((c .before .before .before .before .before .before .before .before .before .before .before .before .before .before .before .before .before .before .before .before .before .array-turns) .ensures) _ ((c .before .before .before .before .before .before .before .before .before .before .before .before .before .x) .given .1) ((c .before .before .before .before .before .before .before .on-array-open) .ensures) ((c .before .before .if5) .left), (c .before .before .before .before .before .before .before .before .before .before .before .before .before .before .before .before .before .before .before .before .before .before .before .before .loop) .inv .1, (c .before .before .before .before .before .before .before .before .before .before .before .before .before .before .before .before .before .before .before .before .before .before .before .before .loop) .inv .2, ((c .before .before .before .before .before .before .before .on-array-open .kept .1 .1 .1 .1 .1 .0) ∙ (c .before .before .before .before .before .before .before .before .before .before .before .before .before .before .before .before .before .before .before .before .before .array-turns .kept .1 .1 .1 .1 .1 .0)) ∙ (c .before .before .before .before .before .before .before .before .before .before .before .before .before .before .before .before .before .before .before .before .before .before .before .before .loop) .inv .3, ((c .before .before .before .before .before .before .before .on-array-open .kept .1 .1 .1 .1 .1 .1 .0) ∙ (c .before .before .before .before .before .before .before .before .before .before .before .before .before .before .before .before .before .before .before .before .before .array-turns .kept .1 .1 .1 .1 .1 .1 .0)) ∙ (c .before .before .before .before .before .before .before .before .before .before .before .before .before .before .before .before .before .before .before .before .before .before .before .before .loop) .inv .4, omega (arith, (c .before .before .before .before .before .before .before .before .before .before .before .before .before .before .before .before .before .before .before .before .before .before .before .before .loop) .inv .5))
+on-array-open-loop-again-4 t c = (stack-array-again ((c .before .before .before .before .before .before .before .before .before .before .before .before .before .before .before .before .before .before .before .before .before .before .before .before .before .loop) .inv .0) _ ((c .before .before .before .before .before .before .before .before .before .before .before .before .before .before .before .before .before .before .before .before .before .before .array-turns) .ensures) _ ((c .before .before .before .before .before .before .before .before .before .before .before .before .before .x) .given .1) ((c .before .before .before .before .before .before .before .on-array-open) .ensures) ((c .before .before .if5) .left), (c .before .before .before .before .before .before .before .before .before .before .before .before .before .before .before .before .before .before .before .before .before .before .before .before .before .loop) .inv .1, (c .before .before .before .before .before .before .before .before .before .before .before .before .before .before .before .before .before .before .before .before .before .before .before .before .before .loop) .inv .2, ((c .before .before .before .before .before .before .before .on-array-open .kept .1 .1 .1 .1 .1 .0) ∙ (c .before .before .before .before .before .before .before .before .before .before .before .before .before .before .before .before .before .before .before .before .before .before .array-turns .kept .1 .1 .1 .1 .1 .0)) ∙ (c .before .before .before .before .before .before .before .before .before .before .before .before .before .before .before .before .before .before .before .before .before .before .before .before .before .loop) .inv .3, ((c .before .before .before .before .before .before .before .on-array-open .kept .1 .1 .1 .1 .1 .1 .0) ∙ (c .before .before .before .before .before .before .before .before .before .before .before .before .before .before .before .before .before .before .before .before .before .before .array-turns .kept .1 .1 .1 .1 .1 .1 .0)) ∙ (c .before .before .before .before .before .before .before .before .before .before .before .before .before .before .before .before .before .before .before .before .before .before .before .before .before .loop) .inv .4, omega (arith, (c .before .before .before .before .before .before .before .before .before .before .before .before .before .before .before .before .before .before .before .before .before .before .before .before .before .loop) .inv .5))
 
 on-array-open-enum-known-x-2 : (t : ℕ) → on-array-open-lts.Need-enum-known-x-2 (
   emit-reads.Asked,
@@ -550,7 +550,7 @@ on-array-open-on-inline-table-open-requires : (t : ℕ) → on-array-open-lts.Ne
   on-inline-table-open-below t,
   on-inline-table-open.Post,
 ) (on-array-open-at t) on-array-open.Post on-array-open-Inv-loop on-array-open-μ-loop
-on-array-open-on-inline-table-open-requires t c κs = (omega (arith, ((c .before .before .before .before .before .before .before .before .before .before .before .before .before .before .loop) .inv .0) .sum, (c .before .before .before .before .before .before .before .before .before .before .before .before .before .before .before .before .before .before .before .before .before .before .before .before .pre) .0), (c .before .before .before .before .before .before .before .before .before .before .before .array-turns) .ensures .good)
+on-array-open-on-inline-table-open-requires t c κs = (omega (arith, ((c .before .before .before .before .before .before .before .before .before .before .before .before .before .before .before .loop) .inv .0) .sum, (c .before .before .before .before .before .before .before .before .before .before .before .before .before .before .before .before .before .before .before .before .before .before .before .before .before .pre) .0), (c .before .before .before .before .before .before .before .before .before .before .before .before .array-turns) .ensures .good)
 
 on-array-open-same-length-7 : (t : ℕ) → on-array-open-lts.Need-same-length-7 (
   emit-reads.Asked,
@@ -562,7 +562,7 @@ on-array-open-same-length-7 : (t : ℕ) → on-array-open-lts.Need-same-length-7
   on-inline-table-open-below t,
   on-inline-table-open.Post,
 ) (on-array-open-at t) on-array-open.Post on-array-open-Inv-loop on-array-open-μ-loop
-on-array-open-same-length-7 t c = ((c .before .before .before .before .before .on-inline-table-open .kept .1 .1 .1 .1 .1 .0) ∙ (c .before .before .before .before .before .before .before .before .before .before .before .before .before .before .before .before .before .array-turns .kept .1 .1 .1 .1 .1 .0)) ∙ (c .before .before .before .before .before .before .before .before .before .before .before .before .before .before .before .before .before .before .before .before .loop) .inv .3 ∙ (c .before .before .before .before .before .before .before .before .before .before .before .before .before .before .before .before .before .before .before .before .before .before .before .emit) .kept .0
+on-array-open-same-length-7 t c = ((c .before .before .before .before .before .on-inline-table-open .kept .1 .1 .1 .1 .1 .0) ∙ (c .before .before .before .before .before .before .before .before .before .before .before .before .before .before .before .before .before .before .array-turns .kept .1 .1 .1 .1 .1 .0)) ∙ (c .before .before .before .before .before .before .before .before .before .before .before .before .before .before .before .before .before .before .before .before .before .loop) .inv .3 ∙ (c .before .before .before .before .before .before .before .before .before .before .before .before .before .before .before .before .before .before .before .before .before .before .before .before .emit) .kept .0
 
 on-array-open-same-length-8 : (t : ℕ) → on-array-open-lts.Need-same-length-8 (
   emit-reads.Asked,
@@ -574,7 +574,7 @@ on-array-open-same-length-8 : (t : ℕ) → on-array-open-lts.Need-same-length-8
   on-inline-table-open-below t,
   on-inline-table-open.Post,
 ) (on-array-open-at t) on-array-open.Post on-array-open-Inv-loop on-array-open-μ-loop
-on-array-open-same-length-8 t c = ((c .before .before .before .before .before .on-inline-table-open .kept .1 .1 .1 .1 .1 .1 .0) ∙ (c .before .before .before .before .before .before .before .before .before .before .before .before .before .before .before .before .before .array-turns .kept .1 .1 .1 .1 .1 .1 .0)) ∙ (c .before .before .before .before .before .before .before .before .before .before .before .before .before .before .before .before .before .before .before .before .loop) .inv .4
+on-array-open-same-length-8 t c = ((c .before .before .before .before .before .on-inline-table-open .kept .1 .1 .1 .1 .1 .1 .0) ∙ (c .before .before .before .before .before .before .before .before .before .before .before .before .before .before .before .before .before .before .array-turns .kept .1 .1 .1 .1 .1 .1 .0)) ∙ (c .before .before .before .before .before .before .before .before .before .before .before .before .before .before .before .before .before .before .before .before .before .loop) .inv .4
 
 on-array-open-returns-5 : (t : ℕ) → on-array-open-lts.Need-returns-5 (
   emit-reads.Asked,
@@ -586,7 +586,7 @@ on-array-open-returns-5 : (t : ℕ) → on-array-open-lts.Need-returns-5 (
   on-inline-table-open-below t,
   on-inline-table-open.Post,
 ) (on-array-open-at t) on-array-open.Post on-array-open-Inv-loop on-array-open-μ-loop
-on-array-open-returns-5 t c = nested-as (open-array ((c .before .before .before .before .before .before .before .before .before .before .before .before .before .before .before .before .before .before .before .before .before .before .before .before .before .before .before .before .before .before .args) .settings .levels) _ _ _ ((c .before .before .before .before .before .before .before .before .before .before .before .before .before .before .before .before .before .before .before .before .before .before .before .before .before .if1) .left)) (nested-item _ _ (λ all. (c .before .before .before .before .before .before .before .before .before .before .before .before .before .before .before .before .before .before .before .before .before .before .before .emit) .ensures all _) (stack-table-stop ((c .before .before .before .before .before .before .before .before .before .before .before .before .before .before .before .before .before .before .before .before .loop) .inv .0) _ ((c .before .before .before .before .before .before .before .before .before .before .before .before .before .before .before .before .before .array-turns) .ensures) _ ((c .before .before .before .before .before .before .before .before .before .x2) .given .1) ((c .before .before .before .before .before .on-inline-table-open) .ensures) ((c .if6) .taken)))
+on-array-open-returns-5 t c = nested-as (open-array ((c .before .before .before .before .before .before .before .before .before .before .before .before .before .before .before .before .before .before .before .before .before .before .before .before .before .before .before .before .before .before .before .args) .settings .levels) _ _ _ ((c .before .before .before .before .before .before .before .before .before .before .before .before .before .before .before .before .before .before .before .before .before .before .before .before .before .before .if1) .left)) (nested-item _ _ (λ all. (c .before .before .before .before .before .before .before .before .before .before .before .before .before .before .before .before .before .before .before .before .before .before .before .before .emit) .ensures all _) (stack-table-stop ((c .before .before .before .before .before .before .before .before .before .before .before .before .before .before .before .before .before .before .before .before .before .loop) .inv .0) _ ((c .before .before .before .before .before .before .before .before .before .before .before .before .before .before .before .before .before .before .array-turns) .ensures) _ ((c .before .before .before .before .before .before .before .before .before .x2) .given .1) ((c .before .before .before .before .before .on-inline-table-open) .ensures) ((c .if6) .taken)))
 
 on-array-open-loop-less-5 : (t : ℕ) → on-array-open-lts.Need-loop-less-5 (
   emit-reads.Asked,
@@ -598,7 +598,7 @@ on-array-open-loop-less-5 : (t : ℕ) → on-array-open-lts.Need-loop-less-5 (
   on-inline-table-open-below t,
   on-inline-table-open.Post,
 ) (on-array-open-at t) on-array-open.Post on-array-open-Inv-loop on-array-open-μ-loop
-on-array-open-loop-less-5 t c = omega (arith, stack-table-moved ((c .before .before .before .before .before .before .before .before .before .before .before .before .before .before .before .before .before .before .before .before .before .before .loop) .inv .0) _ ((c .before .before .before .before .before .before .before .before .before .before .before .before .before .before .before .before .before .before .before .array-turns) .ensures) _ ((c .before .before .before .before .before .before .before .before .before .before .before .x2) .given .1), (c .before .before .before .before .before .before .before .on-inline-table-open) .ensures .on, (c .before .before .before .before .before .before .before .on-inline-table-open) .ensures .good .low)
+on-array-open-loop-less-5 t c = omega (arith, stack-table-moved ((c .before .before .before .before .before .before .before .before .before .before .before .before .before .before .before .before .before .before .before .before .before .before .before .loop) .inv .0) _ ((c .before .before .before .before .before .before .before .before .before .before .before .before .before .before .before .before .before .before .before .before .array-turns) .ensures) _ ((c .before .before .before .before .before .before .before .before .before .before .before .x2) .given .1), (c .before .before .before .before .before .before .before .on-inline-table-open) .ensures .on, (c .before .before .before .before .before .before .before .on-inline-table-open) .ensures .good .low)
 
 on-array-open-loop-again-5 : (t : ℕ) → on-array-open-lts.Need-loop-again-5 (
   emit-reads.Asked,
@@ -610,7 +610,7 @@ on-array-open-loop-again-5 : (t : ℕ) → on-array-open-lts.Need-loop-again-5 (
   on-inline-table-open-below t,
   on-inline-table-open.Post,
 ) (on-array-open-at t) on-array-open.Post on-array-open-Inv-loop on-array-open-μ-loop
-on-array-open-loop-again-5 t c = (stack-table-again ((c .before .before .before .before .before .before .before .before .before .before .before .before .before .before .before .before .before .before .before .before .before .before .loop) .inv .0) _ ((c .before .before .before .before .before .before .before .before .before .before .before .before .before .before .before .before .before .before .before .array-turns) .ensures) _ ((c .before .before .before .before .before .before .before .before .before .before .before .x2) .given .1) ((c .before .before .before .before .before .before .before .on-inline-table-open) .ensures) ((c .before .before .if6) .left), (c .before .before .before .before .before .before .before .before .before .before .before .before .before .before .before .before .before .before .before .before .before .before .loop) .inv .1, (c .before .before .before .before .before .before .before .before .before .before .before .before .before .before .before .before .before .before .before .before .before .before .loop) .inv .2, ((c .before .before .before .before .before .before .before .on-inline-table-open .kept .1 .1 .1 .1 .1 .0) ∙ (c .before .before .before .before .before .before .before .before .before .before .before .before .before .before .before .before .before .before .before .array-turns .kept .1 .1 .1 .1 .1 .0)) ∙ (c .before .before .before .before .before .before .before .before .before .before .before .before .before .before .before .before .before .before .before .before .before .before .loop) .inv .3, ((c .before .before .before .before .before .before .before .on-inline-table-open .kept .1 .1 .1 .1 .1 .1 .0) ∙ (c .before .before .before .before .before .before .before .before .before .before .before .before .before .before .before .before .before .before .before .array-turns .kept .1 .1 .1 .1 .1 .1 .0)) ∙ (c .before .before .before .before .before .before .before .before .before .before .before .before .before .before .before .before .before .before .before .before .before .before .loop) .inv .4, omega (arith, (c .before .before .before .before .before .before .before .before .before .before .before .before .before .before .before .before .before .before .before .before .before .before .loop) .inv .5))
+on-array-open-loop-again-5 t c = (stack-table-again ((c .before .before .before .before .before .before .before .before .before .before .before .before .before .before .before .before .before .before .before .before .before .before .before .loop) .inv .0) _ ((c .before .before .before .before .before .before .before .before .before .before .before .before .before .before .before .before .before .before .before .before .array-turns) .ensures) _ ((c .before .before .before .before .before .before .before .before .before .before .before .x2) .given .1) ((c .before .before .before .before .before .before .before .on-inline-table-open) .ensures) ((c .before .before .if6) .left), (c .before .before .before .before .before .before .before .before .before .before .before .before .before .before .before .before .before .before .before .before .before .before .before .loop) .inv .1, (c .before .before .before .before .before .before .before .before .before .before .before .before .before .before .before .before .before .before .before .before .before .before .before .loop) .inv .2, ((c .before .before .before .before .before .before .before .on-inline-table-open .kept .1 .1 .1 .1 .1 .0) ∙ (c .before .before .before .before .before .before .before .before .before .before .before .before .before .before .before .before .before .before .before .before .array-turns .kept .1 .1 .1 .1 .1 .0)) ∙ (c .before .before .before .before .before .before .before .before .before .before .before .before .before .before .before .before .before .before .before .before .before .before .before .loop) .inv .3, ((c .before .before .before .before .before .before .before .on-inline-table-open .kept .1 .1 .1 .1 .1 .1 .0) ∙ (c .before .before .before .before .before .before .before .before .before .before .before .before .before .before .before .before .before .before .before .before .array-turns .kept .1 .1 .1 .1 .1 .1 .0)) ∙ (c .before .before .before .before .before .before .before .before .before .before .before .before .before .before .before .before .before .before .before .before .before .before .before .loop) .inv .4, omega (arith, (c .before .before .before .before .before .before .before .before .before .before .before .before .before .before .before .before .before .before .before .before .before .before .before .loop) .inv .5))
 
 abbrev on-inline-table-open-Inv-loop : on-inline-table-open-lts.InvT-loop
 on-inline-table-open-Inv-loop s head events₀ errors₀ levels n₀ cur₀ p₀ actions opened inside events errors n cur p =
@@ -662,7 +662,7 @@ on-inline-table-open-action-table-requires : (t : ℕ) → on-inline-table-open-
 ) (on-inline-table-open-at t) on-inline-table-open.Post on-inline-table-open-Inv-loop on-inline-table-open-μ-loop
 on-inline-table-open-action-table-requires t c κs = search needs
 
-on-inline-table-open-sub-t36 : (t : ℕ) → on-inline-table-open-lts.Need-sub-t36 (
+on-inline-table-open-sub-t37 : (t : ℕ) → on-inline-table-open-lts.Need-sub-t37 (
   emit-reads.Asked,
   emit-reads.Learnt,
   action-table-reads.Asked,
@@ -674,7 +674,7 @@ on-inline-table-open-sub-t36 : (t : ℕ) → on-inline-table-open-lts.Need-sub-t
   on-inline-table-open-below t,
   on-inline-table-open.Post,
 ) (on-inline-table-open-at t) on-inline-table-open.Post on-inline-table-open-Inv-loop on-inline-table-open-μ-loop
-on-inline-table-open-sub-t36 t c = omega (arith, (c .before .before .before .before .before .if1) .left)
+on-inline-table-open-sub-t37 t c = omega (arith, (c .before .before .before .before .before .if1) .left)
 
 on-inline-table-open-loop-holds : (t : ℕ) → on-inline-table-open-lts.Need-loop-holds (
   emit-reads.Asked,
@@ -730,7 +730,7 @@ on-inline-table-open-loop-less : (t : ℕ) → on-inline-table-open-lts.Need-loo
   on-inline-table-open-below t,
   on-inline-table-open.Post,
 ) (on-inline-table-open-at t) on-inline-table-open.Post on-inline-table-open-Inv-loop on-inline-table-open-μ-loop
-on-inline-table-open-loop-less t c = omega (arith, turn-moved (onOpen ((c .before .before .before .before .before .before .before .before .before .before .before .before .before .before .before .before .before .before .before .before .before .before .before .before .args) .settings .levels - 1)) (λ nest. inlineTableTurn (span ((c .before .before .before .before .before .before .before .before .before .before .before .before .before .before .before .before .before .before .before .before .before .before .before .before .args) .head .start) ((c .before .before .before .before .before .before .before .before .before .before .before .before .before .before .before .before .before .before .before .before .before .before .before .before .args) .head .end)) (count ((c .before .before .before .before .before .before .before .before .before .before .before .before .before .before .before .before .before .before .before .before .before .before .before .before .args) .s .now) - (c .before .before .before .before .before .before .before .before .before .before .before .before .before .before .before .before .before .before .before .before .before .before .before .before .args) .c .at) nest) (λ f g w. refl) ((c .before .before .before .before .before .before .before .before .before .before .before .before .before .loop) .p) ((c .before .before .before .before .before .before .before .before .before .before .before .before .before .loop) .inv .0) ((c .before .before .before .before .before .before .before .before .before .inline-table-turn) .result .progress) ((c .before .before .before .before .before .before .before .before .before .inline-table-turn) .ensures) ((c .enum-told) .given .1), (c .before .before .before .before .before .before .before .before .before .inline-table-turn) .ensures .good .low)
+on-inline-table-open-loop-less t c = omega (arith, turn-moved (onOpen ((c .before .before .before .before .before .before .before .before .before .before .before .before .before .before .before .before .before .before .before .before .before .before .before .before .before .args) .settings .levels - 1)) (λ nest. inlineTableTurn (span ((c .before .before .before .before .before .before .before .before .before .before .before .before .before .before .before .before .before .before .before .before .before .before .before .before .before .args) .head .start) ((c .before .before .before .before .before .before .before .before .before .before .before .before .before .before .before .before .before .before .before .before .before .before .before .before .before .args) .head .end)) (count ((c .before .before .before .before .before .before .before .before .before .before .before .before .before .before .before .before .before .before .before .before .before .before .before .before .before .args) .s .now) - (c .before .before .before .before .before .before .before .before .before .before .before .before .before .before .before .before .before .before .before .before .before .before .before .before .before .args) .c .at) nest) (λ f g w. refl) ((c .before .before .before .before .before .before .before .before .before .before .before .before .before .before .loop) .p) ((c .before .before .before .before .before .before .before .before .before .before .before .before .before .before .loop) .inv .0) ((c .before .before .before .before .before .before .before .before .before .before .inline-table-turn) .result .progress) ((c .before .before .before .before .before .before .before .before .before .before .inline-table-turn) .ensures) ((c .enum-told) .given .1), (c .before .before .before .before .before .before .before .before .before .before .inline-table-turn) .ensures .good .low)
 
 on-inline-table-open-loop-again : (t : ℕ) → on-inline-table-open-lts.Need-loop-again (
   emit-reads.Asked,
@@ -744,7 +744,7 @@ on-inline-table-open-loop-again : (t : ℕ) → on-inline-table-open-lts.Need-lo
   on-inline-table-open-below t,
   on-inline-table-open.Post,
 ) (on-inline-table-open-at t) on-inline-table-open.Post on-inline-table-open-Inv-loop on-inline-table-open-μ-loop
-on-inline-table-open-loop-again t c = (turn-next (onOpen ((c .before .before .before .before .before .before .before .before .before .before .before .before .before .before .before .before .before .before .before .before .before .before .before .before .args) .settings .levels - 1)) (λ nest. inlineTableTurn (span ((c .before .before .before .before .before .before .before .before .before .before .before .before .before .before .before .before .before .before .before .before .before .before .before .before .args) .head .start) ((c .before .before .before .before .before .before .before .before .before .before .before .before .before .before .before .before .before .before .before .before .before .before .before .before .args) .head .end)) (count ((c .before .before .before .before .before .before .before .before .before .before .before .before .before .before .before .before .before .before .before .before .before .before .before .before .args) .s .now) - (c .before .before .before .before .before .before .before .before .before .before .before .before .before .before .before .before .before .before .before .before .before .before .before .before .args) .c .at) nest) (λ f g w. refl) ((c .before .before .before .before .before .before .before .before .before .before .before .before .before .loop) .p) ((c .before .before .before .before .before .before .before .before .before .before .before .before .before .loop) .inv .0) ((c .before .before .before .before .before .before .before .before .before .inline-table-turn) .result .progress) ((c .before .before .before .before .before .before .before .before .before .inline-table-turn) .ensures) ((c .enum-told) .given .1), ((c .before .before .before .before .before .before .before .before .before .inline-table-turn .kept .1 .1 .1 .1 .1 .1 .1 .0)) ∙ (c .before .before .before .before .before .before .before .before .before .before .before .before .before .loop) .inv .1, ((c .before .before .before .before .before .before .before .before .before .inline-table-turn .kept .1 .1 .1 .1 .1 .1 .1 .1 .0)) ∙ (c .before .before .before .before .before .before .before .before .before .before .before .before .before .loop) .inv .2, (c .before .before .before .before .before .before .before .before .before .before .before .before .before .loop) .inv .3)
+on-inline-table-open-loop-again t c = (turn-next (onOpen ((c .before .before .before .before .before .before .before .before .before .before .before .before .before .before .before .before .before .before .before .before .before .before .before .before .before .args) .settings .levels - 1)) (λ nest. inlineTableTurn (span ((c .before .before .before .before .before .before .before .before .before .before .before .before .before .before .before .before .before .before .before .before .before .before .before .before .before .args) .head .start) ((c .before .before .before .before .before .before .before .before .before .before .before .before .before .before .before .before .before .before .before .before .before .before .before .before .before .args) .head .end)) (count ((c .before .before .before .before .before .before .before .before .before .before .before .before .before .before .before .before .before .before .before .before .before .before .before .before .before .args) .s .now) - (c .before .before .before .before .before .before .before .before .before .before .before .before .before .before .before .before .before .before .before .before .before .before .before .before .before .args) .c .at) nest) (λ f g w. refl) ((c .before .before .before .before .before .before .before .before .before .before .before .before .before .before .loop) .p) ((c .before .before .before .before .before .before .before .before .before .before .before .before .before .before .loop) .inv .0) ((c .before .before .before .before .before .before .before .before .before .before .inline-table-turn) .result .progress) ((c .before .before .before .before .before .before .before .before .before .before .inline-table-turn) .ensures) ((c .enum-told) .given .1), ((c .before .before .before .before .before .before .before .before .before .before .inline-table-turn .kept .1 .1 .1 .1 .1 .1 .1 .0)) ∙ (c .before .before .before .before .before .before .before .before .before .before .before .before .before .before .loop) .inv .1, ((c .before .before .before .before .before .before .before .before .before .before .inline-table-turn .kept .1 .1 .1 .1 .1 .1 .1 .1 .0)) ∙ (c .before .before .before .before .before .before .before .before .before .before .before .before .before .before .loop) .inv .2, (c .before .before .before .before .before .before .before .before .before .before .before .before .before .before .loop) .inv .3)
 
 on-inline-table-open-enum-told-2 : (t : ℕ) → on-inline-table-open-lts.Need-enum-told-2 (
   emit-reads.Asked,
@@ -772,7 +772,7 @@ on-inline-table-open-same-length : (t : ℕ) → on-inline-table-open-lts.Need-s
   on-inline-table-open-below t,
   on-inline-table-open.Post,
 ) (on-inline-table-open-at t) on-inline-table-open.Post on-inline-table-open-Inv-loop on-inline-table-open-μ-loop
-on-inline-table-open-same-length t c = ((c .before .before .before .before .before .before .before .before .before .inline-table-turn .kept .1 .1 .1 .1 .1 .1 .1 .0)) ∙ (c .before .before .before .before .before .before .before .before .before .before .before .before .before .loop) .inv .1 ∙ (c .before .before .before .before .before .before .before .before .before .before .before .before .before .before .before .before .before .emit) .kept .0
+on-inline-table-open-same-length t c = ((c .before .before .before .before .before .before .before .before .before .before .inline-table-turn .kept .1 .1 .1 .1 .1 .1 .1 .0)) ∙ (c .before .before .before .before .before .before .before .before .before .before .before .before .before .before .loop) .inv .1 ∙ (c .before .before .before .before .before .before .before .before .before .before .before .before .before .before .before .before .before .before .emit) .kept .0
 
 on-inline-table-open-same-length-2 : (t : ℕ) → on-inline-table-open-lts.Need-same-length-2 (
   emit-reads.Asked,
@@ -786,7 +786,7 @@ on-inline-table-open-same-length-2 : (t : ℕ) → on-inline-table-open-lts.Need
   on-inline-table-open-below t,
   on-inline-table-open.Post,
 ) (on-inline-table-open-at t) on-inline-table-open.Post on-inline-table-open-Inv-loop on-inline-table-open-μ-loop
-on-inline-table-open-same-length-2 t c = ((c .before .before .before .before .before .before .before .before .before .inline-table-turn .kept .1 .1 .1 .1 .1 .1 .1 .1 .0)) ∙ (c .before .before .before .before .before .before .before .before .before .before .before .before .before .loop) .inv .2
+on-inline-table-open-same-length-2 t c = ((c .before .before .before .before .before .before .before .before .before .before .inline-table-turn .kept .1 .1 .1 .1 .1 .1 .1 .1 .0)) ∙ (c .before .before .before .before .before .before .before .before .before .before .before .before .before .before .loop) .inv .2
 
 on-inline-table-open-returns-2 : (t : ℕ) → on-inline-table-open-lts.Need-returns-2 (
   emit-reads.Asked,
@@ -800,7 +800,7 @@ on-inline-table-open-returns-2 : (t : ℕ) → on-inline-table-open-lts.Need-ret
   on-inline-table-open-below t,
   on-inline-table-open.Post,
 ) (on-inline-table-open-at t) on-inline-table-open.Post on-inline-table-open-Inv-loop on-inline-table-open-μ-loop
-on-inline-table-open-returns-2 t c = nested-as (open-table _ _ ((c .before .before .before .before .before .before .before .before .before .before .before .before .before .before .before .before .before .before .before .before .before .before .before .before .args) .settings .levels) _ _ ((c .before .before .before .before .before .before .before .before .before .before .before .before .before .before .before .before .before .before .before .if1) .left)) (nested-item _ _ (λ all. (c .before .before .before .before .before .before .before .before .before .before .before .before .before .before .before .before .before .emit) .ensures all _) (turn-over (onOpen ((c .before .before .before .before .before .before .before .before .before .before .before .before .before .before .before .before .before .before .before .before .before .before .before .before .args) .settings .levels - 1)) (λ nest. inlineTableTurn (span ((c .before .before .before .before .before .before .before .before .before .before .before .before .before .before .before .before .before .before .before .before .before .before .before .before .args) .head .start) ((c .before .before .before .before .before .before .before .before .before .before .before .before .before .before .before .before .before .before .before .before .before .before .before .before .args) .head .end)) (count ((c .before .before .before .before .before .before .before .before .before .before .before .before .before .before .before .before .before .before .before .before .before .before .before .before .args) .s .now) - (c .before .before .before .before .before .before .before .before .before .before .before .before .before .before .before .before .before .before .before .before .before .before .before .before .args) .c .at) nest) (λ f g w. refl) ((c .before .before .before .before .before .before .before .before .before .before .before .before .before .loop) .p) ((c .before .before .before .before .before .before .before .before .before .before .before .before .before .loop) .inv .0) ((c .before .before .before .before .before .before .before .before .before .inline-table-turn) .result .progress) ((c .before .before .before .before .before .before .before .before .before .inline-table-turn) .ensures) ((c .enum-told2) .given .1)))
+on-inline-table-open-returns-2 t c = nested-as (open-table _ _ ((c .before .before .before .before .before .before .before .before .before .before .before .before .before .before .before .before .before .before .before .before .before .before .before .before .before .args) .settings .levels) _ _ ((c .before .before .before .before .before .before .before .before .before .before .before .before .before .before .before .before .before .before .before .before .if1) .left)) (nested-item _ _ (λ all. (c .before .before .before .before .before .before .before .before .before .before .before .before .before .before .before .before .before .before .emit) .ensures all _) (turn-over (onOpen ((c .before .before .before .before .before .before .before .before .before .before .before .before .before .before .before .before .before .before .before .before .before .before .before .before .before .args) .settings .levels - 1)) (λ nest. inlineTableTurn (span ((c .before .before .before .before .before .before .before .before .before .before .before .before .before .before .before .before .before .before .before .before .before .before .before .before .before .args) .head .start) ((c .before .before .before .before .before .before .before .before .before .before .before .before .before .before .before .before .before .before .before .before .before .before .before .before .before .args) .head .end)) (count ((c .before .before .before .before .before .before .before .before .before .before .before .before .before .before .before .before .before .before .before .before .before .before .before .before .before .args) .s .now) - (c .before .before .before .before .before .before .before .before .before .before .before .before .before .before .before .before .before .before .before .before .before .before .before .before .before .args) .c .at) nest) (λ f g w. refl) ((c .before .before .before .before .before .before .before .before .before .before .before .before .before .before .loop) .p) ((c .before .before .before .before .before .before .before .before .before .before .before .before .before .before .loop) .inv .0) ((c .before .before .before .before .before .before .before .before .before .before .inline-table-turn) .result .progress) ((c .before .before .before .before .before .before .before .before .before .before .inline-table-turn) .ensures) ((c .enum-told2) .given .1)))
 
 on-inline-table-open-enum-known-x : (t : ℕ) → on-inline-table-open-lts.Need-enum-known-x (
   emit-reads.Asked,
@@ -828,7 +828,7 @@ on-inline-table-open-on-array-open-requires : (t : ℕ) → on-inline-table-open
   on-inline-table-open-below t,
   on-inline-table-open.Post,
 ) (on-inline-table-open-at t) on-inline-table-open.Post on-inline-table-open-Inv-loop on-inline-table-open-μ-loop
-on-inline-table-open-on-array-open-requires t c κs = (omega (arith, (c .before .before .before .before .before .before .before .before .before .before .before .before .before .before .before .before .before .before .before .before .before .before .if1) .left, (c .before .before .before .before .before .before .before .before .before .before .before .before .before .before .before .before .before .before .before .before .before .before .before .before .before .before .before .pre) .0), (c .before .before .before .before .before .before .before .before .before .before .before .before .inline-table-turn) .ensures .good)
+on-inline-table-open-on-array-open-requires t c κs = (omega (arith, (c .before .before .before .before .before .before .before .before .before .before .before .before .before .before .before .before .before .before .before .before .before .before .before .if1) .left, (c .before .before .before .before .before .before .before .before .before .before .before .before .before .before .before .before .before .before .before .before .before .before .before .before .before .before .before .before .pre) .0), (c .before .before .before .before .before .before .before .before .before .before .before .before .before .inline-table-turn) .ensures .good)
 
 on-inline-table-open-same-length-3 : (t : ℕ) → on-inline-table-open-lts.Need-same-length-3 (
   emit-reads.Asked,
@@ -842,7 +842,7 @@ on-inline-table-open-same-length-3 : (t : ℕ) → on-inline-table-open-lts.Need
   on-inline-table-open-below t,
   on-inline-table-open.Post,
 ) (on-inline-table-open-at t) on-inline-table-open.Post on-inline-table-open-Inv-loop on-inline-table-open-μ-loop
-on-inline-table-open-same-length-3 t c = ((c .before .before .before .before .before .on-array-open .kept .1 .1 .1 .1 .1 .0) ∙ (c .before .before .before .before .before .before .before .before .before .before .before .before .before .before .before .before .before .before .inline-table-turn .kept .1 .1 .1 .1 .1 .1 .1 .0)) ∙ (c .before .before .before .before .before .before .before .before .before .before .before .before .before .before .before .before .before .before .before .before .before .before .loop) .inv .1 ∙ (c .before .before .before .before .before .before .before .before .before .before .before .before .before .before .before .before .before .before .before .before .before .before .before .before .before .before .emit) .kept .0
+on-inline-table-open-same-length-3 t c = ((c .before .before .before .before .before .on-array-open .kept .1 .1 .1 .1 .1 .0) ∙ (c .before .before .before .before .before .before .before .before .before .before .before .before .before .before .before .before .before .before .before .inline-table-turn .kept .1 .1 .1 .1 .1 .1 .1 .0)) ∙ (c .before .before .before .before .before .before .before .before .before .before .before .before .before .before .before .before .before .before .before .before .before .before .before .loop) .inv .1 ∙ (c .before .before .before .before .before .before .before .before .before .before .before .before .before .before .before .before .before .before .before .before .before .before .before .before .before .before .before .emit) .kept .0
 
 on-inline-table-open-same-length-4 : (t : ℕ) → on-inline-table-open-lts.Need-same-length-4 (
   emit-reads.Asked,
@@ -856,7 +856,7 @@ on-inline-table-open-same-length-4 : (t : ℕ) → on-inline-table-open-lts.Need
   on-inline-table-open-below t,
   on-inline-table-open.Post,
 ) (on-inline-table-open-at t) on-inline-table-open.Post on-inline-table-open-Inv-loop on-inline-table-open-μ-loop
-on-inline-table-open-same-length-4 t c = ((c .before .before .before .before .before .on-array-open .kept .1 .1 .1 .1 .1 .1 .0) ∙ (c .before .before .before .before .before .before .before .before .before .before .before .before .before .before .before .before .before .before .inline-table-turn .kept .1 .1 .1 .1 .1 .1 .1 .1 .0)) ∙ (c .before .before .before .before .before .before .before .before .before .before .before .before .before .before .before .before .before .before .before .before .before .before .loop) .inv .2
+on-inline-table-open-same-length-4 t c = ((c .before .before .before .before .before .on-array-open .kept .1 .1 .1 .1 .1 .1 .0) ∙ (c .before .before .before .before .before .before .before .before .before .before .before .before .before .before .before .before .before .before .before .inline-table-turn .kept .1 .1 .1 .1 .1 .1 .1 .1 .0)) ∙ (c .before .before .before .before .before .before .before .before .before .before .before .before .before .before .before .before .before .before .before .before .before .before .before .loop) .inv .2
 
 on-inline-table-open-returns-3 : (t : ℕ) → on-inline-table-open-lts.Need-returns-3 (
   emit-reads.Asked,
@@ -870,7 +870,7 @@ on-inline-table-open-returns-3 : (t : ℕ) → on-inline-table-open-lts.Need-ret
   on-inline-table-open-below t,
   on-inline-table-open.Post,
 ) (on-inline-table-open-at t) on-inline-table-open.Post on-inline-table-open-Inv-loop on-inline-table-open-μ-loop
-on-inline-table-open-returns-3 t c = nested-as (open-table _ _ ((c .before .before .before .before .before .before .before .before .before .before .before .before .before .before .before .before .before .before .before .before .before .before .before .before .before .before .before .before .before .before .before .before .before .args) .settings .levels) _ _ ((c .before .before .before .before .before .before .before .before .before .before .before .before .before .before .before .before .before .before .before .before .before .before .before .before .before .before .before .before .if1) .left)) (nested-item _ _ (λ all. (c .before .before .before .before .before .before .before .before .before .before .before .before .before .before .before .before .before .before .before .before .before .before .before .before .before .before .emit) .ensures all _) (array-stop (onOpen ((c .before .before .before .before .before .before .before .before .before .before .before .before .before .before .before .before .before .before .before .before .before .before .before .before .before .before .before .before .before .before .before .before .before .args) .settings .levels - 1)) (λ nest. inlineTableTurn (span ((c .before .before .before .before .before .before .before .before .before .before .before .before .before .before .before .before .before .before .before .before .before .before .before .before .before .before .before .before .before .before .before .before .before .args) .head .start) ((c .before .before .before .before .before .before .before .before .before .before .before .before .before .before .before .before .before .before .before .before .before .before .before .before .before .before .before .before .before .before .before .before .before .args) .head .end)) (count ((c .before .before .before .before .before .before .before .before .before .before .before .before .before .before .before .before .before .before .before .before .before .before .before .before .before .before .before .before .before .before .before .before .before .args) .s .now) - (c .before .before .before .before .before .before .before .before .before .before .before .before .before .before .before .before .before .before .before .before .before .before .before .before .before .before .before .before .before .before .before .before .before .args) .c .at) nest) (λ f g w. refl) ((c .before .before .before .before .before .before .before .before .before .before .before .before .before .before .before .before .before .before .before .before .before .before .loop) .p) ((c .before .before .before .before .before .before .before .before .before .before .before .before .before .before .before .before .before .before .before .before .before .before .loop) .inv .0) ((c .before .before .before .before .before .before .before .before .before .before .before .before .before .before .before .before .before .before .inline-table-turn) .result .progress) ((c .before .before .before .before .before .before .before .before .before .before .before .before .before .before .before .before .before .before .inline-table-turn) .ensures) _ ((c .before .before .before .before .before .before .before .before .before .x) .given .1) ((c .before .before .before .before .before .on-array-open) .ensures) ((c .if2) .taken)))
+on-inline-table-open-returns-3 t c = nested-as (open-table _ _ ((c .before .before .before .before .before .before .before .before .before .before .before .before .before .before .before .before .before .before .before .before .before .before .before .before .before .before .before .before .before .before .before .before .before .before .args) .settings .levels) _ _ ((c .before .before .before .before .before .before .before .before .before .before .before .before .before .before .before .before .before .before .before .before .before .before .before .before .before .before .before .before .before .if1) .left)) (nested-item _ _ (λ all. (c .before .before .before .before .before .before .before .before .before .before .before .before .before .before .before .before .before .before .before .before .before .before .before .before .before .before .before .emit) .ensures all _) (array-stop (onOpen ((c .before .before .before .before .before .before .before .before .before .before .before .before .before .before .before .before .before .before .before .before .before .before .before .before .before .before .before .before .before .before .before .before .before .before .args) .settings .levels - 1)) (λ nest. inlineTableTurn (span ((c .before .before .before .before .before .before .before .before .before .before .before .before .before .before .before .before .before .before .before .before .before .before .before .before .before .before .before .before .before .before .before .before .before .before .args) .head .start) ((c .before .before .before .before .before .before .before .before .before .before .before .before .before .before .before .before .before .before .before .before .before .before .before .before .before .before .before .before .before .before .before .before .before .before .args) .head .end)) (count ((c .before .before .before .before .before .before .before .before .before .before .before .before .before .before .before .before .before .before .before .before .before .before .before .before .before .before .before .before .before .before .before .before .before .before .args) .s .now) - (c .before .before .before .before .before .before .before .before .before .before .before .before .before .before .before .before .before .before .before .before .before .before .before .before .before .before .before .before .before .before .before .before .before .before .args) .c .at) nest) (λ f g w. refl) ((c .before .before .before .before .before .before .before .before .before .before .before .before .before .before .before .before .before .before .before .before .before .before .before .loop) .p) ((c .before .before .before .before .before .before .before .before .before .before .before .before .before .before .before .before .before .before .before .before .before .before .before .loop) .inv .0) ((c .before .before .before .before .before .before .before .before .before .before .before .before .before .before .before .before .before .before .before .inline-table-turn) .result .progress) ((c .before .before .before .before .before .before .before .before .before .before .before .before .before .before .before .before .before .before .before .inline-table-turn) .ensures) _ ((c .before .before .before .before .before .before .before .before .before .x) .given .1) ((c .before .before .before .before .before .on-array-open) .ensures) ((c .if2) .taken)))
 
 on-inline-table-open-loop-less-2 : (t : ℕ) → on-inline-table-open-lts.Need-loop-less-2 (
   emit-reads.Asked,
@@ -884,7 +884,7 @@ on-inline-table-open-loop-less-2 : (t : ℕ) → on-inline-table-open-lts.Need-l
   on-inline-table-open-below t,
   on-inline-table-open.Post,
 ) (on-inline-table-open-at t) on-inline-table-open.Post on-inline-table-open-Inv-loop on-inline-table-open-μ-loop
-on-inline-table-open-loop-less-2 t c = omega (arith, array-moved (onOpen ((c .before .before .before .before .before .before .before .before .before .before .before .before .before .before .before .before .before .before .before .before .before .before .before .before .before .before .before .before .before .before .before .before .before .before .before .args) .settings .levels - 1)) (λ nest. inlineTableTurn (span ((c .before .before .before .before .before .before .before .before .before .before .before .before .before .before .before .before .before .before .before .before .before .before .before .before .before .before .before .before .before .before .before .before .before .before .before .args) .head .start) ((c .before .before .before .before .before .before .before .before .before .before .before .before .before .before .before .before .before .before .before .before .before .before .before .before .before .before .before .before .before .before .before .before .before .before .before .args) .head .end)) (count ((c .before .before .before .before .before .before .before .before .before .before .before .before .before .before .before .before .before .before .before .before .before .before .before .before .before .before .before .before .before .before .before .before .before .before .before .args) .s .now) - (c .before .before .before .before .before .before .before .before .before .before .before .before .before .before .before .before .before .before .before .before .before .before .before .before .before .before .before .before .before .before .before .before .before .before .before .args) .c .at) nest) (λ f g w. refl) ((c .before .before .before .before .before .before .before .before .before .before .before .before .before .before .before .before .before .before .before .before .before .before .before .before .loop) .p) ((c .before .before .before .before .before .before .before .before .before .before .before .before .before .before .before .before .before .before .before .before .before .before .before .before .loop) .inv .0) ((c .before .before .before .before .before .before .before .before .before .before .before .before .before .before .before .before .before .before .before .before .inline-table-turn) .result .progress) ((c .before .before .before .before .before .before .before .before .before .before .before .before .before .before .before .before .before .before .before .before .inline-table-turn) .ensures) _ ((c .before .before .before .before .before .before .before .before .before .before .before .x) .given .1), (c .before .before .before .before .before .before .before .on-array-open) .ensures .on, (c .before .before .before .before .before .before .before .on-array-open) .ensures .good .low)
+on-inline-table-open-loop-less-2 t c = omega (arith, array-moved (onOpen ((c .before .before .before .before .before .before .before .before .before .before .before .before .before .before .before .before .before .before .before .before .before .before .before .before .before .before .before .before .before .before .before .before .before .before .before .before .args) .settings .levels - 1)) (λ nest. inlineTableTurn (span ((c .before .before .before .before .before .before .before .before .before .before .before .before .before .before .before .before .before .before .before .before .before .before .before .before .before .before .before .before .before .before .before .before .before .before .before .before .args) .head .start) ((c .before .before .before .before .before .before .before .before .before .before .before .before .before .before .before .before .before .before .before .before .before .before .before .before .before .before .before .before .before .before .before .before .before .before .before .before .args) .head .end)) (count ((c .before .before .before .before .before .before .before .before .before .before .before .before .before .before .before .before .before .before .before .before .before .before .before .before .before .before .before .before .before .before .before .before .before .before .before .before .args) .s .now) - (c .before .before .before .before .before .before .before .before .before .before .before .before .before .before .before .before .before .before .before .before .before .before .before .before .before .before .before .before .before .before .before .before .before .before .before .before .args) .c .at) nest) (λ f g w. refl) ((c .before .before .before .before .before .before .before .before .before .before .before .before .before .before .before .before .before .before .before .before .before .before .before .before .before .loop) .p) ((c .before .before .before .before .before .before .before .before .before .before .before .before .before .before .before .before .before .before .before .before .before .before .before .before .before .loop) .inv .0) ((c .before .before .before .before .before .before .before .before .before .before .before .before .before .before .before .before .before .before .before .before .before .inline-table-turn) .result .progress) ((c .before .before .before .before .before .before .before .before .before .before .before .before .before .before .before .before .before .before .before .before .before .inline-table-turn) .ensures) _ ((c .before .before .before .before .before .before .before .before .before .before .before .x) .given .1), (c .before .before .before .before .before .before .before .on-array-open) .ensures .on, (c .before .before .before .before .before .before .before .on-array-open) .ensures .good .low)
 
 on-inline-table-open-loop-again-2 : (t : ℕ) → on-inline-table-open-lts.Need-loop-again-2 (
   emit-reads.Asked,
@@ -898,7 +898,7 @@ on-inline-table-open-loop-again-2 : (t : ℕ) → on-inline-table-open-lts.Need-
   on-inline-table-open-below t,
   on-inline-table-open.Post,
 ) (on-inline-table-open-at t) on-inline-table-open.Post on-inline-table-open-Inv-loop on-inline-table-open-μ-loop
-on-inline-table-open-loop-again-2 t c = (array-again (onOpen ((c .before .before .before .before .before .before .before .before .before .before .before .before .before .before .before .before .before .before .before .before .before .before .before .before .before .before .before .before .before .before .before .before .before .before .before .args) .settings .levels - 1)) (λ nest. inlineTableTurn (span ((c .before .before .before .before .before .before .before .before .before .before .before .before .before .before .before .before .before .before .before .before .before .before .before .before .before .before .before .before .before .before .before .before .before .before .before .args) .head .start) ((c .before .before .before .before .before .before .before .before .before .before .before .before .before .before .before .before .before .before .before .before .before .before .before .before .before .before .before .before .before .before .before .before .before .before .before .args) .head .end)) (count ((c .before .before .before .before .before .before .before .before .before .before .before .before .before .before .before .before .before .before .before .before .before .before .before .before .before .before .before .before .before .before .before .before .before .before .before .args) .s .now) - (c .before .before .before .before .before .before .before .before .before .before .before .before .before .before .before .before .before .before .before .before .before .before .before .before .before .before .before .before .before .before .before .before .before .before .before .args) .c .at) nest) (λ f g w. refl) ((c .before .before .before .before .before .before .before .before .before .before .before .before .before .before .before .before .before .before .before .before .before .before .before .before .loop) .p) ((c .before .before .before .before .before .before .before .before .before .before .before .before .before .before .before .before .before .before .before .before .before .before .before .before .loop) .inv .0) ((c .before .before .before .before .before .before .before .before .before .before .before .before .before .before .before .before .before .before .before .before .inline-table-turn) .result .progress) ((c .before .before .before .before .before .before .before .before .before .before .before .before .before .before .before .before .before .before .before .before .inline-table-turn) .ensures) _ ((c .before .before .before .before .before .before .before .before .before .before .before .x) .given .1) ((c .before .before .before .before .before .before .before .on-array-open) .ensures) ((c .before .before .if2) .left), ((c .before .before .before .before .before .before .before .on-array-open .kept .1 .1 .1 .1 .1 .0) ∙ (c .before .before .before .before .before .before .before .before .before .before .before .before .before .before .before .before .before .before .before .before .inline-table-turn .kept .1 .1 .1 .1 .1 .1 .1 .0)) ∙ (c .before .before .before .before .before .before .before .before .before .before .before .before .before .before .before .before .before .before .before .before .before .before .before .before .loop) .inv .1, ((c .before .before .before .before .before .before .before .on-array-open .kept .1 .1 .1 .1 .1 .1 .0) ∙ (c .before .before .before .before .before .before .before .before .before .before .before .before .before .before .before .before .before .before .before .before .inline-table-turn .kept .1 .1 .1 .1 .1 .1 .1 .1 .0)) ∙ (c .before .before .before .before .before .before .before .before .before .before .before .before .before .before .before .before .before .before .before .before .before .before .before .before .loop) .inv .2, (c .before .before .before .before .before .before .before .before .before .before .before .before .before .before .before .before .before .before .before .before .before .before .before .before .loop) .inv .3)
+on-inline-table-open-loop-again-2 t c = (array-again (onOpen ((c .before .before .before .before .before .before .before .before .before .before .before .before .before .before .before .before .before .before .before .before .before .before .before .before .before .before .before .before .before .before .before .before .before .before .before .before .args) .settings .levels - 1)) (λ nest. inlineTableTurn (span ((c .before .before .before .before .before .before .before .before .before .before .before .before .before .before .before .before .before .before .before .before .before .before .before .before .before .before .before .before .before .before .before .before .before .before .before .before .args) .head .start) ((c .before .before .before .before .before .before .before .before .before .before .before .before .before .before .before .before .before .before .before .before .before .before .before .before .before .before .before .before .before .before .before .before .before .before .before .before .args) .head .end)) (count ((c .before .before .before .before .before .before .before .before .before .before .before .before .before .before .before .before .before .before .before .before .before .before .before .before .before .before .before .before .before .before .before .before .before .before .before .before .args) .s .now) - (c .before .before .before .before .before .before .before .before .before .before .before .before .before .before .before .before .before .before .before .before .before .before .before .before .before .before .before .before .before .before .before .before .before .before .before .before .args) .c .at) nest) (λ f g w. refl) ((c .before .before .before .before .before .before .before .before .before .before .before .before .before .before .before .before .before .before .before .before .before .before .before .before .before .loop) .p) ((c .before .before .before .before .before .before .before .before .before .before .before .before .before .before .before .before .before .before .before .before .before .before .before .before .before .loop) .inv .0) ((c .before .before .before .before .before .before .before .before .before .before .before .before .before .before .before .before .before .before .before .before .before .inline-table-turn) .result .progress) ((c .before .before .before .before .before .before .before .before .before .before .before .before .before .before .before .before .before .before .before .before .before .inline-table-turn) .ensures) _ ((c .before .before .before .before .before .before .before .before .before .before .before .x) .given .1) ((c .before .before .before .before .before .before .before .on-array-open) .ensures) ((c .before .before .if2) .left), ((c .before .before .before .before .before .before .before .on-array-open .kept .1 .1 .1 .1 .1 .0) ∙ (c .before .before .before .before .before .before .before .before .before .before .before .before .before .before .before .before .before .before .before .before .before .inline-table-turn .kept .1 .1 .1 .1 .1 .1 .1 .0)) ∙ (c .before .before .before .before .before .before .before .before .before .before .before .before .before .before .before .before .before .before .before .before .before .before .before .before .before .loop) .inv .1, ((c .before .before .before .before .before .before .before .on-array-open .kept .1 .1 .1 .1 .1 .1 .0) ∙ (c .before .before .before .before .before .before .before .before .before .before .before .before .before .before .before .before .before .before .before .before .before .inline-table-turn .kept .1 .1 .1 .1 .1 .1 .1 .1 .0)) ∙ (c .before .before .before .before .before .before .before .before .before .before .before .before .before .before .before .before .before .before .before .before .before .before .before .before .before .loop) .inv .2, (c .before .before .before .before .before .before .before .before .before .before .before .before .before .before .before .before .before .before .before .before .before .before .before .before .before .loop) .inv .3)
 
 on-inline-table-open-enum-known-x-2 : (t : ℕ) → on-inline-table-open-lts.Need-enum-known-x-2 (
   emit-reads.Asked,
@@ -926,7 +926,7 @@ on-inline-table-open-on-inline-table-open-requires : (t : ℕ) → on-inline-tab
   on-inline-table-open-below t,
   on-inline-table-open.Post,
 ) (on-inline-table-open-at t) on-inline-table-open.Post on-inline-table-open-Inv-loop on-inline-table-open-μ-loop
-on-inline-table-open-on-inline-table-open-requires t c κs = (omega (arith, (c .before .before .before .before .before .before .before .before .before .before .before .before .before .before .before .before .before .before .before .before .before .before .if1) .left, (c .before .before .before .before .before .before .before .before .before .before .before .before .before .before .before .before .before .before .before .before .before .before .before .before .before .before .before .pre) .0), (c .before .before .before .before .before .before .before .before .before .before .before .before .inline-table-turn) .ensures .good)
+on-inline-table-open-on-inline-table-open-requires t c κs = (omega (arith, (c .before .before .before .before .before .before .before .before .before .before .before .before .before .before .before .before .before .before .before .before .before .before .before .if1) .left, (c .before .before .before .before .before .before .before .before .before .before .before .before .before .before .before .before .before .before .before .before .before .before .before .before .before .before .before .before .pre) .0), (c .before .before .before .before .before .before .before .before .before .before .before .before .before .inline-table-turn) .ensures .good)
 
 on-inline-table-open-same-length-5 : (t : ℕ) → on-inline-table-open-lts.Need-same-length-5 (
   emit-reads.Asked,
@@ -940,7 +940,7 @@ on-inline-table-open-same-length-5 : (t : ℕ) → on-inline-table-open-lts.Need
   on-inline-table-open-below t,
   on-inline-table-open.Post,
 ) (on-inline-table-open-at t) on-inline-table-open.Post on-inline-table-open-Inv-loop on-inline-table-open-μ-loop
-on-inline-table-open-same-length-5 t c = ((c .before .before .before .before .before .on-inline-table-open .kept .1 .1 .1 .1 .1 .0) ∙ (c .before .before .before .before .before .before .before .before .before .before .before .before .before .before .before .before .before .before .inline-table-turn .kept .1 .1 .1 .1 .1 .1 .1 .0)) ∙ (c .before .before .before .before .before .before .before .before .before .before .before .before .before .before .before .before .before .before .before .before .before .before .loop) .inv .1 ∙ (c .before .before .before .before .before .before .before .before .before .before .before .before .before .before .before .before .before .before .before .before .before .before .before .before .before .before .emit) .kept .0
+on-inline-table-open-same-length-5 t c = ((c .before .before .before .before .before .on-inline-table-open .kept .1 .1 .1 .1 .1 .0) ∙ (c .before .before .before .before .before .before .before .before .before .before .before .before .before .before .before .before .before .before .before .inline-table-turn .kept .1 .1 .1 .1 .1 .1 .1 .0)) ∙ (c .before .before .before .before .before .before .before .before .before .before .before .before .before .before .before .before .before .before .before .before .before .before .before .loop) .inv .1 ∙ (c .before .before .before .before .before .before .before .before .before .before .before .before .before .before .before .before .before .before .before .before .before .before .before .before .before .before .before .emit) .kept .0
 
 on-inline-table-open-same-length-6 : (t : ℕ) → on-inline-table-open-lts.Need-same-length-6 (
   emit-reads.Asked,
@@ -954,7 +954,7 @@ on-inline-table-open-same-length-6 : (t : ℕ) → on-inline-table-open-lts.Need
   on-inline-table-open-below t,
   on-inline-table-open.Post,
 ) (on-inline-table-open-at t) on-inline-table-open.Post on-inline-table-open-Inv-loop on-inline-table-open-μ-loop
-on-inline-table-open-same-length-6 t c = ((c .before .before .before .before .before .on-inline-table-open .kept .1 .1 .1 .1 .1 .1 .0) ∙ (c .before .before .before .before .before .before .before .before .before .before .before .before .before .before .before .before .before .before .inline-table-turn .kept .1 .1 .1 .1 .1 .1 .1 .1 .0)) ∙ (c .before .before .before .before .before .before .before .before .before .before .before .before .before .before .before .before .before .before .before .before .before .before .loop) .inv .2
+on-inline-table-open-same-length-6 t c = ((c .before .before .before .before .before .on-inline-table-open .kept .1 .1 .1 .1 .1 .1 .0) ∙ (c .before .before .before .before .before .before .before .before .before .before .before .before .before .before .before .before .before .before .before .inline-table-turn .kept .1 .1 .1 .1 .1 .1 .1 .1 .0)) ∙ (c .before .before .before .before .before .before .before .before .before .before .before .before .before .before .before .before .before .before .before .before .before .before .before .loop) .inv .2
 
 on-inline-table-open-returns-4 : (t : ℕ) → on-inline-table-open-lts.Need-returns-4 (
   emit-reads.Asked,
@@ -968,7 +968,7 @@ on-inline-table-open-returns-4 : (t : ℕ) → on-inline-table-open-lts.Need-ret
   on-inline-table-open-below t,
   on-inline-table-open.Post,
 ) (on-inline-table-open-at t) on-inline-table-open.Post on-inline-table-open-Inv-loop on-inline-table-open-μ-loop
-on-inline-table-open-returns-4 t c = nested-as (open-table _ _ ((c .before .before .before .before .before .before .before .before .before .before .before .before .before .before .before .before .before .before .before .before .before .before .before .before .before .before .before .before .before .before .before .before .before .args) .settings .levels) _ _ ((c .before .before .before .before .before .before .before .before .before .before .before .before .before .before .before .before .before .before .before .before .before .before .before .before .before .before .before .before .if1) .left)) (nested-item _ _ (λ all. (c .before .before .before .before .before .before .before .before .before .before .before .before .before .before .before .before .before .before .before .before .before .before .before .before .before .before .emit) .ensures all _) (table-stop (onOpen ((c .before .before .before .before .before .before .before .before .before .before .before .before .before .before .before .before .before .before .before .before .before .before .before .before .before .before .before .before .before .before .before .before .before .args) .settings .levels - 1)) (λ nest. inlineTableTurn (span ((c .before .before .before .before .before .before .before .before .before .before .before .before .before .before .before .before .before .before .before .before .before .before .before .before .before .before .before .before .before .before .before .before .before .args) .head .start) ((c .before .before .before .before .before .before .before .before .before .before .before .before .before .before .before .before .before .before .before .before .before .before .before .before .before .before .before .before .before .before .before .before .before .args) .head .end)) (count ((c .before .before .before .before .before .before .before .before .before .before .before .before .before .before .before .before .before .before .before .before .before .before .before .before .before .before .before .before .before .before .before .before .before .args) .s .now) - (c .before .before .before .before .before .before .before .before .before .before .before .before .before .before .before .before .before .before .before .before .before .before .before .before .before .before .before .before .before .before .before .before .before .args) .c .at) nest) (λ f g w. refl) ((c .before .before .before .before .before .before .before .before .before .before .before .before .before .before .before .before .before .before .before .before .before .before .loop) .p) ((c .before .before .before .before .before .before .before .before .before .before .before .before .before .before .before .before .before .before .before .before .before .before .loop) .inv .0) ((c .before .before .before .before .before .before .before .before .before .before .before .before .before .before .before .before .before .before .inline-table-turn) .result .progress) ((c .before .before .before .before .before .before .before .before .before .before .before .before .before .before .before .before .before .before .inline-table-turn) .ensures) _ ((c .before .before .before .before .before .before .before .before .before .x2) .given .1) ((c .before .before .before .before .before .on-inline-table-open) .ensures) ((c .if3) .taken)))
+on-inline-table-open-returns-4 t c = nested-as (open-table _ _ ((c .before .before .before .before .before .before .before .before .before .before .before .before .before .before .before .before .before .before .before .before .before .before .before .before .before .before .before .before .before .before .before .before .before .before .args) .settings .levels) _ _ ((c .before .before .before .before .before .before .before .before .before .before .before .before .before .before .before .before .before .before .before .before .before .before .before .before .before .before .before .before .before .if1) .left)) (nested-item _ _ (λ all. (c .before .before .before .before .before .before .before .before .before .before .before .before .before .before .before .before .before .before .before .before .before .before .before .before .before .before .before .emit) .ensures all _) (table-stop (onOpen ((c .before .before .before .before .before .before .before .before .before .before .before .before .before .before .before .before .before .before .before .before .before .before .before .before .before .before .before .before .before .before .before .before .before .before .args) .settings .levels - 1)) (λ nest. inlineTableTurn (span ((c .before .before .before .before .before .before .before .before .before .before .before .before .before .before .before .before .before .before .before .before .before .before .before .before .before .before .before .before .before .before .before .before .before .before .args) .head .start) ((c .before .before .before .before .before .before .before .before .before .before .before .before .before .before .before .before .before .before .before .before .before .before .before .before .before .before .before .before .before .before .before .before .before .before .args) .head .end)) (count ((c .before .before .before .before .before .before .before .before .before .before .before .before .before .before .before .before .before .before .before .before .before .before .before .before .before .before .before .before .before .before .before .before .before .before .args) .s .now) - (c .before .before .before .before .before .before .before .before .before .before .before .before .before .before .before .before .before .before .before .before .before .before .before .before .before .before .before .before .before .before .before .before .before .before .args) .c .at) nest) (λ f g w. refl) ((c .before .before .before .before .before .before .before .before .before .before .before .before .before .before .before .before .before .before .before .before .before .before .before .loop) .p) ((c .before .before .before .before .before .before .before .before .before .before .before .before .before .before .before .before .before .before .before .before .before .before .before .loop) .inv .0) ((c .before .before .before .before .before .before .before .before .before .before .before .before .before .before .before .before .before .before .before .inline-table-turn) .result .progress) ((c .before .before .before .before .before .before .before .before .before .before .before .before .before .before .before .before .before .before .before .inline-table-turn) .ensures) _ ((c .before .before .before .before .before .before .before .before .before .x2) .given .1) ((c .before .before .before .before .before .on-inline-table-open) .ensures) ((c .if3) .taken)))
 
 on-inline-table-open-loop-less-3 : (t : ℕ) → on-inline-table-open-lts.Need-loop-less-3 (
   emit-reads.Asked,
@@ -982,7 +982,7 @@ on-inline-table-open-loop-less-3 : (t : ℕ) → on-inline-table-open-lts.Need-l
   on-inline-table-open-below t,
   on-inline-table-open.Post,
 ) (on-inline-table-open-at t) on-inline-table-open.Post on-inline-table-open-Inv-loop on-inline-table-open-μ-loop
-on-inline-table-open-loop-less-3 t c = omega (arith, table-moved (onOpen ((c .before .before .before .before .before .before .before .before .before .before .before .before .before .before .before .before .before .before .before .before .before .before .before .before .before .before .before .before .before .before .before .before .before .before .before .args) .settings .levels - 1)) (λ nest. inlineTableTurn (span ((c .before .before .before .before .before .before .before .before .before .before .before .before .before .before .before .before .before .before .before .before .before .before .before .before .before .before .before .before .before .before .before .before .before .before .before .args) .head .start) ((c .before .before .before .before .before .before .before .before .before .before .before .before .before .before .before .before .before .before .before .before .before .before .before .before .before .before .before .before .before .before .before .before .before .before .before .args) .head .end)) (count ((c .before .before .before .before .before .before .before .before .before .before .before .before .before .before .before .before .before .before .before .before .before .before .before .before .before .before .before .before .before .before .before .before .before .before .before .args) .s .now) - (c .before .before .before .before .before .before .before .before .before .before .before .before .before .before .before .before .before .before .before .before .before .before .before .before .before .before .before .before .before .before .before .before .before .before .before .args) .c .at) nest) (λ f g w. refl) ((c .before .before .before .before .before .before .before .before .before .before .before .before .before .before .before .before .before .before .before .before .before .before .before .before .loop) .p) ((c .before .before .before .before .before .before .before .before .before .before .before .before .before .before .before .before .before .before .before .before .before .before .before .before .loop) .inv .0) ((c .before .before .before .before .before .before .before .before .before .before .before .before .before .before .before .before .before .before .before .before .inline-table-turn) .result .progress) ((c .before .before .before .before .before .before .before .before .before .before .before .before .before .before .before .before .before .before .before .before .inline-table-turn) .ensures) _ ((c .before .before .before .before .before .before .before .before .before .before .before .x2) .given .1), (c .before .before .before .before .before .before .before .on-inline-table-open) .ensures .on, (c .before .before .before .before .before .before .before .on-inline-table-open) .ensures .good .low)
+on-inline-table-open-loop-less-3 t c = omega (arith, table-moved (onOpen ((c .before .before .before .before .before .before .before .before .before .before .before .before .before .before .before .before .before .before .before .before .before .before .before .before .before .before .before .before .before .before .before .before .before .before .before .before .args) .settings .levels - 1)) (λ nest. inlineTableTurn (span ((c .before .before .before .before .before .before .before .before .before .before .before .before .before .before .before .before .before .before .before .before .before .before .before .before .before .before .before .before .before .before .before .before .before .before .before .before .args) .head .start) ((c .before .before .before .before .before .before .before .before .before .before .before .before .before .before .before .before .before .before .before .before .before .before .before .before .before .before .before .before .before .before .before .before .before .before .before .before .args) .head .end)) (count ((c .before .before .before .before .before .before .before .before .before .before .before .before .before .before .before .before .before .before .before .before .before .before .before .before .before .before .before .before .before .before .before .before .before .before .before .before .args) .s .now) - (c .before .before .before .before .before .before .before .before .before .before .before .before .before .before .before .before .before .before .before .before .before .before .before .before .before .before .before .before .before .before .before .before .before .before .before .before .args) .c .at) nest) (λ f g w. refl) ((c .before .before .before .before .before .before .before .before .before .before .before .before .before .before .before .before .before .before .before .before .before .before .before .before .before .loop) .p) ((c .before .before .before .before .before .before .before .before .before .before .before .before .before .before .before .before .before .before .before .before .before .before .before .before .before .loop) .inv .0) ((c .before .before .before .before .before .before .before .before .before .before .before .before .before .before .before .before .before .before .before .before .before .inline-table-turn) .result .progress) ((c .before .before .before .before .before .before .before .before .before .before .before .before .before .before .before .before .before .before .before .before .before .inline-table-turn) .ensures) _ ((c .before .before .before .before .before .before .before .before .before .before .before .x2) .given .1), (c .before .before .before .before .before .before .before .on-inline-table-open) .ensures .on, (c .before .before .before .before .before .before .before .on-inline-table-open) .ensures .good .low)
 
 on-inline-table-open-loop-again-3 : (t : ℕ) → on-inline-table-open-lts.Need-loop-again-3 (
   emit-reads.Asked,
@@ -996,7 +996,7 @@ on-inline-table-open-loop-again-3 : (t : ℕ) → on-inline-table-open-lts.Need-
   on-inline-table-open-below t,
   on-inline-table-open.Post,
 ) (on-inline-table-open-at t) on-inline-table-open.Post on-inline-table-open-Inv-loop on-inline-table-open-μ-loop
-on-inline-table-open-loop-again-3 t c = (table-again (onOpen ((c .before .before .before .before .before .before .before .before .before .before .before .before .before .before .before .before .before .before .before .before .before .before .before .before .before .before .before .before .before .before .before .before .before .before .before .args) .settings .levels - 1)) (λ nest. inlineTableTurn (span ((c .before .before .before .before .before .before .before .before .before .before .before .before .before .before .before .before .before .before .before .before .before .before .before .before .before .before .before .before .before .before .before .before .before .before .before .args) .head .start) ((c .before .before .before .before .before .before .before .before .before .before .before .before .before .before .before .before .before .before .before .before .before .before .before .before .before .before .before .before .before .before .before .before .before .before .before .args) .head .end)) (count ((c .before .before .before .before .before .before .before .before .before .before .before .before .before .before .before .before .before .before .before .before .before .before .before .before .before .before .before .before .before .before .before .before .before .before .before .args) .s .now) - (c .before .before .before .before .before .before .before .before .before .before .before .before .before .before .before .before .before .before .before .before .before .before .before .before .before .before .before .before .before .before .before .before .before .before .before .args) .c .at) nest) (λ f g w. refl) ((c .before .before .before .before .before .before .before .before .before .before .before .before .before .before .before .before .before .before .before .before .before .before .before .before .loop) .p) ((c .before .before .before .before .before .before .before .before .before .before .before .before .before .before .before .before .before .before .before .before .before .before .before .before .loop) .inv .0) ((c .before .before .before .before .before .before .before .before .before .before .before .before .before .before .before .before .before .before .before .before .inline-table-turn) .result .progress) ((c .before .before .before .before .before .before .before .before .before .before .before .before .before .before .before .before .before .before .before .before .inline-table-turn) .ensures) _ ((c .before .before .before .before .before .before .before .before .before .before .before .x2) .given .1) ((c .before .before .before .before .before .before .before .on-inline-table-open) .ensures) ((c .before .before .if3) .left), ((c .before .before .before .before .before .before .before .on-inline-table-open .kept .1 .1 .1 .1 .1 .0) ∙ (c .before .before .before .before .before .before .before .before .before .before .before .before .before .before .before .before .before .before .before .before .inline-table-turn .kept .1 .1 .1 .1 .1 .1 .1 .0)) ∙ (c .before .before .before .before .before .before .before .before .before .before .before .before .before .before .before .before .before .before .before .before .before .before .before .before .loop) .inv .1, ((c .before .before .before .before .before .before .before .on-inline-table-open .kept .1 .1 .1 .1 .1 .1 .0) ∙ (c .before .before .before .before .before .before .before .before .before .before .before .before .before .before .before .before .before .before .before .before .inline-table-turn .kept .1 .1 .1 .1 .1 .1 .1 .1 .0)) ∙ (c .before .before .before .before .before .before .before .before .before .before .before .before .before .before .before .before .before .before .before .before .before .before .before .before .loop) .inv .2, (c .before .before .before .before .before .before .before .before .before .before .before .before .before .before .before .before .before .before .before .before .before .before .before .before .loop) .inv .3)
+on-inline-table-open-loop-again-3 t c = (table-again (onOpen ((c .before .before .before .before .before .before .before .before .before .before .before .before .before .before .before .before .before .before .before .before .before .before .before .before .before .before .before .before .before .before .before .before .before .before .before .before .args) .settings .levels - 1)) (λ nest. inlineTableTurn (span ((c .before .before .before .before .before .before .before .before .before .before .before .before .before .before .before .before .before .before .before .before .before .before .before .before .before .before .before .before .before .before .before .before .before .before .before .before .args) .head .start) ((c .before .before .before .before .before .before .before .before .before .before .before .before .before .before .before .before .before .before .before .before .before .before .before .before .before .before .before .before .before .before .before .before .before .before .before .before .args) .head .end)) (count ((c .before .before .before .before .before .before .before .before .before .before .before .before .before .before .before .before .before .before .before .before .before .before .before .before .before .before .before .before .before .before .before .before .before .before .before .before .args) .s .now) - (c .before .before .before .before .before .before .before .before .before .before .before .before .before .before .before .before .before .before .before .before .before .before .before .before .before .before .before .before .before .before .before .before .before .before .before .before .args) .c .at) nest) (λ f g w. refl) ((c .before .before .before .before .before .before .before .before .before .before .before .before .before .before .before .before .before .before .before .before .before .before .before .before .before .loop) .p) ((c .before .before .before .before .before .before .before .before .before .before .before .before .before .before .before .before .before .before .before .before .before .before .before .before .before .loop) .inv .0) ((c .before .before .before .before .before .before .before .before .before .before .before .before .before .before .before .before .before .before .before .before .before .inline-table-turn) .result .progress) ((c .before .before .before .before .before .before .before .before .before .before .before .before .before .before .before .before .before .before .before .before .before .inline-table-turn) .ensures) _ ((c .before .before .before .before .before .before .before .before .before .before .before .x2) .given .1) ((c .before .before .before .before .before .before .before .on-inline-table-open) .ensures) ((c .before .before .if3) .left), ((c .before .before .before .before .before .before .before .on-inline-table-open .kept .1 .1 .1 .1 .1 .0) ∙ (c .before .before .before .before .before .before .before .before .before .before .before .before .before .before .before .before .before .before .before .before .before .inline-table-turn .kept .1 .1 .1 .1 .1 .1 .1 .0)) ∙ (c .before .before .before .before .before .before .before .before .before .before .before .before .before .before .before .before .before .before .before .before .before .before .before .before .before .loop) .inv .1, ((c .before .before .before .before .before .before .before .on-inline-table-open .kept .1 .1 .1 .1 .1 .1 .0) ∙ (c .before .before .before .before .before .before .before .before .before .before .before .before .before .before .before .before .before .before .before .before .before .inline-table-turn .kept .1 .1 .1 .1 .1 .1 .1 .1 .0)) ∙ (c .before .before .before .before .before .before .before .before .before .before .before .before .before .before .before .before .before .before .before .before .before .before .before .before .before .loop) .inv .2, (c .before .before .before .before .before .before .before .before .before .before .before .before .before .before .before .before .before .before .before .before .before .before .before .before .before .loop) .inv .3)
 
 pub +on-array-open+on-inline-table-open-spec : {M : Type 1} → statement M
 +on-array-open+on-inline-table-open-spec =
@@ -1029,10 +1029,10 @@ pub +on-array-open+on-inline-table-open-spec : {M : Type 1} → statement M
     (on-array-open-returns-2 t)
     (on-array-open-sub-depth t)
     (on-array-open-add-left t)
-    (on-array-open-mul-t44 t)
-    (on-array-open-array-read-t47 t)
-    (on-array-open-mul-t48 t)
-    (on-array-open-array-read-t51 t)
+    (on-array-open-mul-t45 t)
+    (on-array-open-array-read-t48 t)
+    (on-array-open-mul-t49 t)
+    (on-array-open-array-read-t52 t)
     (on-array-open-loop-less-2 t)
     (on-array-open-loop-again-2 t)
     (on-array-open-enum-known-x t)
@@ -1080,7 +1080,7 @@ pub +on-array-open+on-inline-table-open-spec : {M : Type 1} → statement M
     (on-inline-table-open-returns t)
     (on-inline-table-open-emit-requires t)
     (on-inline-table-open-action-table-requires t)
-    (on-inline-table-open-sub-t36 t)
+    (on-inline-table-open-sub-t37 t)
     (on-inline-table-open-loop-holds t)
     (on-inline-table-open-inline-table-turn-requires t)
     (on-inline-table-open-enum-told t)

@@ -30,10 +30,10 @@ enum-told : tie.Need-enum-told Inv-loop μ-loop
 enum-told c = search needs
 
 loop-less : tie.Need-loop-less Inv-loop μ-loop
-loop-less c = omega (arith, again-moved ((c .before .before .before .before .before .before .before .before .before .before .before .loop) .inv .0) _ ((c .before .before .before .before .before .before .before .before .array-turn) .ensures .0) ((c .before .before .enum-told) .given .1), (c .before .before .before .before .before .before .before .before .array-turn) .ensures .0 .good .low)
+loop-less c = omega (arith, again-moved ((c .before .before .before .before .before .before .before .before .before .before .before .before .loop) .inv .0) _ ((c .before .before .before .before .before .before .before .before .before .array-turn) .ensures .0) ((c .before .before .enum-told) .given .1), (c .before .before .before .before .before .before .before .before .before .array-turn) .ensures .0 .good .low)
 
 loop-again : tie.Need-loop-again Inv-loop μ-loop
-loop-again c = (running-next ((c .before .before .before .before .before .before .before .before .before .before .before .loop) .inv .0) _ ((c .before .before .before .before .before .before .before .before .array-turn) .ensures .0) ((c .before .before .enum-told) .given .1), ((c .before .before .before .before .before .before .before .before .array-turn .kept .1 .1 .1 .1 .1 .0)) ∙ (c .before .before .before .before .before .before .before .before .before .before .before .loop) .inv .1, ((c .before .before .before .before .before .before .before .before .array-turn .kept .1 .1 .1 .1 .1 .1 .0)) ∙ (c .before .before .before .before .before .before .before .before .before .before .before .loop) .inv .2)
+loop-again c = (running-next ((c .before .before .before .before .before .before .before .before .before .before .before .before .loop) .inv .0) _ ((c .before .before .before .before .before .before .before .before .before .array-turn) .ensures .0) ((c .before .before .enum-told) .given .1), ((c .before .before .before .before .before .before .before .before .before .array-turn .kept .1 .1 .1 .1 .1 .0)) ∙ (c .before .before .before .before .before .before .before .before .before .before .before .before .loop) .inv .1, ((c .before .before .before .before .before .before .before .before .before .array-turn .kept .1 .1 .1 .1 .1 .1 .0)) ∙ (c .before .before .before .before .before .before .before .before .before .before .before .before .loop) .inv .2)
 
 enum-told-2 : tie.Need-enum-told-2 Inv-loop μ-loop
 enum-told-2 c = search needs
@@ -45,7 +45,7 @@ same-length-2 : tie.Need-same-length-2 Inv-loop μ-loop
 same-length-2 c = search needs
 
 returns : tie.Need-returns Inv-loop μ-loop
-returns c = ran ((c .before .before .before .before .before .before .before .before .before .loop) .inv .0) _ ((c .before .before .before .before .before .before .array-turn) .ensures .0) ((c .before .before .before .before .before .before .array-turn) .ensures .1)
+returns c = ran ((c .before .before .before .before .before .before .before .before .before .before .loop) .inv .0) _ ((c .before .before .before .before .before .before .before .array-turn) .ensures .0) ((c .before .before .before .before .before .before .before .array-turn) .ensures .1)
 
 enum-told-3 : tie.Need-enum-told-3 Inv-loop μ-loop
 enum-told-3 c = search needs
@@ -57,7 +57,7 @@ same-length-4 : tie.Need-same-length-4 Inv-loop μ-loop
 same-length-4 c = search needs
 
 returns-2 : tie.Need-returns-2 Inv-loop μ-loop
-returns-2 c = ran ((c .before .before .before .before .before .before .before .before .before .loop) .inv .0) _ ((c .before .before .before .before .before .before .array-turn) .ensures .0) ((c .before .before .before .before .before .before .array-turn) .ensures .1)
+returns-2 c = ran ((c .before .before .before .before .before .before .before .before .before .before .loop) .inv .0) _ ((c .before .before .before .before .before .before .before .array-turn) .ensures .0) ((c .before .before .before .before .before .before .before .array-turn) .ensures .1)
 
 enum-told-4 : tie.Need-enum-told-4 Inv-loop μ-loop
 enum-told-4 c = search needs
@@ -69,7 +69,7 @@ same-length-6 : tie.Need-same-length-6 Inv-loop μ-loop
 same-length-6 c = search needs
 
 returns-3 : tie.Need-returns-3 Inv-loop μ-loop
-returns-3 c = ran ((c .before .before .before .before .before .before .before .before .before .loop) .inv .0) _ ((c .before .before .before .before .before .before .array-turn) .ensures .0) ((c .before .before .before .before .before .before .array-turn) .ensures .1)
+returns-3 c = ran ((c .before .before .before .before .before .before .before .before .before .before .loop) .inv .0) _ ((c .before .before .before .before .before .before .before .array-turn) .ensures .0) ((c .before .before .before .before .before .before .before .array-turn) .ensures .1)
 
 pub array-turns-spec : {M : Type 1} → statement M
 array-turns-spec =

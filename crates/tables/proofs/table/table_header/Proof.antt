@@ -9,7 +9,7 @@ use Rattle.rules.specs.Keys.{optWhitespace, key, keyValid}
 use Rattle.rules.specs.Table.{nextTokenIf, closed, unclosed}
 use Rattle.output.specs.WalkLaws.{told-if, told-none, goes-on, goes-as, goes-past}
 use Rattle.output.specs.NextLaws.{next-got, next-none}
-use Rattle.tables.proofs.TableLaws.{unclosed-by}
+use Rattle.table_ends.proofs.TableLaws.{unclosed-by}
 use borrow.Author.Needs.{needs}
 use Rattle.tables.proofs.table.table_header.Statement.{statement}
 use Rattle.tables.proofs.table.table_header.Tie as tie

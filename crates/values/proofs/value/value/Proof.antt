@@ -14,7 +14,7 @@ use Rattle.rules.specs.Expected as expected
 use Rattle.rules.specs.declared.skipping.Bracket.{Bracket}
 use Rattle.rules.specs.WithoutOpen.{withoutOpen}
 use Rattle.rules.specs.Value.{value}
-use Rattle.key_dots.specs.KeyWalks.{nothingLeft}
+use Rattle.key_spaces.specs.Nothing.{nothingLeft}
 use Rattle.output.specs.WalkLaws.{at-end}
 use Rattle.nest.specs.NestedLaws.{nested-goes, nested-same}
 use Rattle.values.proofs.ValueLaws.{value-at, value-starts, finish-nested}

@@ -1,29 +1,10 @@
--- By the run, what is asked of it and of the list, and what the two theorems say of such a run.
+-- What the run left is judged; nothing is known of the list before.
 -- Made by ./proofs from Proof.tmpl: change that.
-use mathlib.Core.Path.{_≡_, sym, _∙_}
-use mathlib.Core.Bool.{true, false, false≢true}
-use Prim.Native.Nat.{_/_, _<_, _≤_}
-use native.Mathlib.Omega.{arith}
-use lib.ListN.{length}
-use Rattle.token.specs.Records.{count}
-use Rattle.rules.specs.Answer.{asCrate}
-use Rattle.verdicts.specs.Verdicts.{unjudged}
-use Rattle.verdicts.proofs.VerdictLaws.{not-judged, too-little, irregular, by-the-run}
+use mathlib.Core.Path.{sym}
+use mathlib.Core.Bool.{false≢true}
 use borrow.Author.Needs.{needs}
 use Rattle.verdicts.proofs.verdict.fits.Statement.{statement}
 use Rattle.verdicts.proofs.verdict.fits.Tie as tie
-
-slice-aggregate-quiet-exactly-when-fits-within : tie.Need-slice-aggregate-quiet-exactly-when-fits-within
-slice-aggregate-quiet-exactly-when-fits-within c = search needs
-
-quiet-exactly-when-fits-within-requires : tie.Need-quiet-exactly-when-fits-within-requires
-quiet-exactly-when-fits-within-requires c κs = search needs
-
-slice-aggregate-fits-then-quiet : tie.Need-slice-aggregate-fits-then-quiet
-slice-aggregate-fits-then-quiet c = search needs
-
-fits-then-quiet-requires : tie.Need-fits-then-quiet-requires
-fits-then-quiet-requires c κs = search needs
 
 slice-aggregate-parse-document : tie.Need-slice-aggregate-parse-document
 slice-aggregate-parse-document c = search needs
@@ -31,81 +12,21 @@ slice-aggregate-parse-document c = search needs
 parse-document-requires : tie.Need-parse-document-requires
 parse-document-requires c κs = search needs
 
-is-unjudged-requires : tie.Need-is-unjudged-requires
-is-unjudged-requires c κs = search needs
-
-answered-requires : tie.Need-answered-requires
-answered-requires c κs = search needs
+judge-run-requires : tie.Need-judge-run-requires
+judge-run-requires c κs = λ e. absurd (false≢true e)
 
 same-length : tie.Need-same-length
 same-length c = search needs
 
 returns : tie.Need-returns
-returns c =
-    let u : unjudged ((c .before .before .before .before .before .before .parse-document) .result .refusal) ≡ true = cc in
-    rw ((c .answered) .ensures) (not-judged ((c .before .before .before .before .before .before .before .before .before .before .before .before .before .before .before .before .before .args) .records .now) ((c .before .before .before .before .before .before .before .before .before .before .before .before .before .before .before .before .before .args) .base) ((c .before .before .before .before .before .before .before .before .before .before .before .before .before .before .before .before .before .args) .events .now) _ _ _ ((c .before .before .before .before .before .before .parse-document) .ensures) (record { within = (c .before .before .before .before .before .before .before .before .before .before .before .before .quiet-exactly-when-fits-within) .ensures asCrate; quiet = (c .before .before .before .before .before .before .before .before .before .fits-then-quiet) .ensures asCrate }) u)
-
-answered-requires-2 : tie.Need-answered-requires-2
-answered-requires-2 c κs = search needs
-
-same-length-2 : tie.Need-same-length-2
-same-length-2 c = search needs
-
-returns-2 : tie.Need-returns-2
-returns-2 c =
-    let u : unjudged ((c .before .before .before .before .before .before .before .parse-document) .result .refusal) ≡ false = cc in
-    rw ((c .answered2) .ensures) (too-little ((c .before .before .before .before .before .before .before .before .before .before .before .before .before .before .before .before .before .before .args) .records .now) ((c .before .before .before .before .before .before .before .before .before .before .before .before .before .before .before .before .before .before .args) .base) ((c .before .before .before .before .before .before .before .before .before .before .before .before .before .before .before .before .before .before .args) .events .now) _ _ _ ((c .before .before .before .before .before .before .before .parse-document) .ensures) (record { within = (c .before .before .before .before .before .before .before .before .before .before .before .before .before .quiet-exactly-when-fits-within) .ensures asCrate; quiet = (c .before .before .before .before .before .before .before .before .before .before .fits-then-quiet) .ensures asCrate }) u (omega (arith, (c .before .if2) .taken, ((c .before .before .before .before .before .before .before .parse-document) .kept .1 .1 .1 .0))))
-
-is-regular-requires : tie.Need-is-regular-requires
-is-regular-requires c κs = search needs
-
-is-quiet-without-multi-line-key-requires : tie.Need-is-quiet-without-multi-line-key-requires
-is-quiet-without-multi-line-key-requires c κs = search needs
-
-answered-requires-3 : tie.Need-answered-requires-3
-answered-requires-3 c κs = search needs
-
-same-length-3 : tie.Need-same-length-3
-same-length-3 c = search needs
-
-returns-3 : tie.Need-returns-3
-returns-3 c =
-    let u : unjudged ((c .before .before .before .before .before .before .before .before .before .before .before .parse-document) .result .refusal) ≡ false = cc in
-    rw ((c .answered3) .ensures) (by-the-run ((c .before .before .before .before .before .before .before .before .before .before .before .before .before .before .before .before .before .before .before .before .before .before .args) .records .now) ((c .before .before .before .before .before .before .before .before .before .before .before .before .before .before .before .before .before .before .before .before .before .before .args) .base) ((c .before .before .before .before .before .before .before .before .before .before .before .before .before .before .before .before .before .before .before .before .before .before .args) .events .now) _ _ _ ((c .before .before .before .before .before .before .before .before .before .before .before .parse-document) .ensures) (record { within = (c .before .before .before .before .before .before .before .before .before .before .before .before .before .before .before .before .before .quiet-exactly-when-fits-within) .ensures asCrate; quiet = (c .before .before .before .before .before .before .before .before .before .before .before .before .before .before .fits-then-quiet) .ensures asCrate }) u (omega (arith, (c .before .before .before .before .before .if2) .left, ((c .before .before .before .before .before .before .before .before .before .before .before .parse-document) .kept .1 .1 .1 .0))) _ ((c .before .before .before .before .is-regular) .ensures .0 ((c .before .before .before .if3) .taken)) ((c .before .is-quiet-without-multi-line-key) .ensures))
-
-answered-requires-4 : tie.Need-answered-requires-4
-answered-requires-4 c κs = search needs
-
-same-length-4 : tie.Need-same-length-4
-same-length-4 c = search needs
-
-returns-4 : tie.Need-returns-4
-returns-4 c =
-    let u : unjudged ((c .before .before .before .before .before .before .before .before .before .parse-document) .result .refusal) ≡ false = cc in
-    rw ((c .answered4) .ensures) (irregular ((c .before .before .before .before .before .before .before .before .before .before .before .before .before .before .before .before .before .before .before .before .args) .records .now) ((c .before .before .before .before .before .before .before .before .before .before .before .before .before .before .before .before .before .before .before .before .args) .base) ((c .before .before .before .before .before .before .before .before .before .before .before .before .before .before .before .before .before .before .before .before .args) .events .now) _ _ _ ((c .before .before .before .before .before .before .before .before .before .parse-document) .ensures) (record { within = (c .before .before .before .before .before .before .before .before .before .before .before .before .before .before .before .quiet-exactly-when-fits-within) .ensures asCrate; quiet = (c .before .before .before .before .before .before .before .before .before .before .before .before .fits-then-quiet) .ensures asCrate }) u (omega (arith, (c .before .before .before .if2) .left, ((c .before .before .before .before .before .before .before .before .before .parse-document) .kept .1 .1 .1 .0))) (λ g. false≢true (sym ((c .before .if3) .left) ∙ (c .before .before .is-regular) .ensures .1 g)))
+returns c = (c .judge-run) .ensures ((c .before .before .before .before .before .before .before .before .before .before .args) .events .now) _ ((c .before .before .before .before .before .parse-document) .kept .1 .1 .1 .0) ((c .before .before .before .before .before .parse-document) .ensures)
 
 pub fits-spec : {M : Type 1} → statement M
 fits-spec =
     tie.close
     (tie.spec
-    slice-aggregate-quiet-exactly-when-fits-within
-    quiet-exactly-when-fits-within-requires
-    slice-aggregate-fits-then-quiet
-    fits-then-quiet-requires
     slice-aggregate-parse-document
     parse-document-requires
-    is-unjudged-requires
-    answered-requires
+    judge-run-requires
     same-length
-    returns
-    answered-requires-2
-    same-length-2
-    returns-2
-    is-regular-requires
-    is-quiet-without-multi-line-key-requires
-    answered-requires-3
-    same-length-3
-    returns-3
-    answered-requires-4
-    same-length-4
-    returns-4)
+    returns)

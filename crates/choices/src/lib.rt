@@ -1,0 +1,2 @@
+// What a caller chooses: modes by their numbers, and what an entry answers to one.
+pub mod modes;

@@ -1,5 +1,0 @@
-pub mod FillLaws
-pub mod NumberLaws
-pub mod PourLaws
-pub mod AnswerLaws
-pub mod EntryLaws

@@ -1,0 +1,4 @@
+pub mod NumberLaws
+pub mod PourLaws
+pub mod AnswerLaws
+pub mod EntryLaws

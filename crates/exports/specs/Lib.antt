@@ -1,0 +1,12 @@
+pub mod Exported
+pub mod Determined
+pub mod ExportedVerdicts
+pub mod ExportedTexts
+pub mod ExportedIndexes
+pub mod ExportedMistakes
+pub mod Version
+pub mod ExportLaws
+pub mod VerdictExports
+pub mod TextExportLaws
+pub mod IndexExports
+pub mod MistakeExports

@@ -1,0 +1,3 @@
+pub mod Headers
+pub mod Placing
+pub mod States

@@ -1,0 +1,44 @@
+-- Both bytes are below 256.
+-- Made by ./proofs from Proof.tmpl: change that.
+use mathlib.Core.Path.{_≡_, refl, ap, _∙_}
+use native.Mathlib.Omega.{arith}
+use borrow.Author.Needs.{needs}
+use Rattle.index_entries.proofs.reading.two_at.Statement.{statement}
+use Rattle.index_entries.proofs.reading.two_at.Tie as tie
+
+shared-slice-read-wide : tie.Need-shared-slice-read-wide
+shared-slice-read-wide c = search needs
+
+wide-requires : tie.Need-wide-requires
+wide-requires c κs = search needs
+
+add-wide : tie.Need-add-wide
+add-wide c = search needs
+
+shared-slice-read-wide-2 : tie.Need-shared-slice-read-wide-2
+shared-slice-read-wide-2 c = search needs
+
+wide-requires-2 : tie.Need-wide-requires-2
+wide-requires-2 c κs = search needs
+
+mul-result : tie.Need-mul-result
+mul-result c = omega (arith, (c .before .before .wide) .ensures .0, (c .before .before .wide) .ensures .1, (c .wide2) .ensures .0, (c .wide2) .ensures .1)
+
+add-result : tie.Need-add-result
+add-result c = omega (arith, (c .before .before .wide) .ensures .0, (c .before .before .wide) .ensures .1, (c .wide2) .ensures .0, (c .wide2) .ensures .1)
+
+returns : tie.Need-returns
+returns c = (omega (arith, (c .before .before .wide) .ensures .0, (c .before .before .wide) .ensures .1, (c .wide2) .ensures .0, (c .wide2) .ensures .1), omega (arith, (c .before .before .wide) .ensures .0, (c .before .before .wide) .ensures .1, (c .wide2) .ensures .0, (c .wide2) .ensures .1))
+
+pub two-at-spec : {M : Type 1} → statement M
+two-at-spec =
+    tie.close
+    (tie.spec
+    shared-slice-read-wide
+    wide-requires
+    add-wide
+    shared-slice-read-wide-2
+    wide-requires-2
+    mul-result
+    add-result
+    returns)

@@ -1,0 +1,4 @@
+pub mod OutcomeLaws
+pub mod CompleteLaws
+pub mod SoundLaws
+pub mod FitLaws

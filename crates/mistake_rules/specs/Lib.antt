@@ -1,0 +1,4 @@
+pub mod Mistakes
+pub mod Sheets
+pub mod Outcome
+pub mod Promises

@@ -1,0 +1,57 @@
+// One token: process_token of lexer/mod.rs.
+use crate::start::start_of;
+use scan::lexer::Found;
+use scan::sets::lex_atom;
+use scan::sets::lex_comment;
+use scan::sets::lex_crlf;
+use scan::sets::lex_whitespace;
+use scan::start::Start;
+use strings::basic::lex_basic_string;
+use strings::basic::lex_ml_basic_string;
+use strings::literal::lex_literal_string;
+use strings::literal::lex_ml_literal_string;
+use strings::quotes::starts_three;
+use token::kind::Kind;
+ghost use mathlib.Core.Path.{_≡_};
+ghost use Prim.Native.Nat.{_<_};
+ghost use lib.ListN.{length};
+ghost use Rattle.scan.specs.Finding.{IsToken};
+
+fn piece(kind: Kind, end: usize) -> Found
+    ensures { λ r. ⌜ r ≡ record { end = end; kind = kind } ⌝ }
+{
+    Found { end, kind }
+}
+
+pub fn process_token(text: &[u8], at: usize) -> Found
+    requires { ⌜ at < length (now text) ⌝ }
+    ensures { λ r. ⌜ IsToken (now (text .entry)) at r ⌝ }
+{
+    let start = start_of(text[at]);
+    match start {
+        Start::Dot => piece(Kind::Dot, at + 1),
+        Start::Equals => piece(Kind::Equals, at + 1),
+        Start::Comma => piece(Kind::Comma, at + 1),
+        Start::LeftSquareBracket => piece(Kind::LeftSquareBracket, at + 1),
+        Start::RightSquareBracket => piece(Kind::RightSquareBracket, at + 1),
+        Start::LeftCurlyBracket => piece(Kind::LeftCurlyBracket, at + 1),
+        Start::RightCurlyBracket => piece(Kind::RightCurlyBracket, at + 1),
+        Start::Wschar => piece(Kind::Whitespace, lex_whitespace(text, at + 1)),
+        Start::CommentStartSymbol => piece(Kind::Comment, lex_comment(text, at + 1)),
+        Start::CarriageReturn => piece(Kind::Newline, lex_crlf(text, at + 1)),
+        Start::LineFeed => piece(Kind::Newline, at + 1),
+        Start::Apostrophe => {
+            if starts_three(text, at, b'\'') {
+                return piece(Kind::MlLiteralString, lex_ml_literal_string(text, at + 3));
+            }
+            piece(Kind::LiteralString, lex_literal_string(text, at + 1))
+        }
+        Start::QuotationMark => {
+            if starts_three(text, at, b'"') {
+                return piece(Kind::MlBasicString, lex_ml_basic_string(text, at + 3));
+            }
+            piece(Kind::BasicString, lex_basic_string(text, at + 1))
+        }
+        Start::Other => piece(Kind::Atom, lex_atom(text, at + 1)),
+    }
+}

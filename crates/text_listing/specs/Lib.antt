@@ -1,0 +1,4 @@
+pub mod Checking
+pub mod TextPromises
+pub mod Examples
+pub mod ReadTexts

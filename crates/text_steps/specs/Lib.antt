@@ -1,0 +1,3 @@
+pub mod TextVerdicts
+pub mod Begun
+pub mod BegunLaws

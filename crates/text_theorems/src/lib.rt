@@ -1,0 +1,2 @@
+// Demand 3 said of a text.
+pub mod theorems;
