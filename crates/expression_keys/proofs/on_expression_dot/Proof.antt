@@ -3,8 +3,8 @@
 use mathlib.Core.Path.{refl}
 use native.Mathlib.Omega.{arith}
 use borrow.Author.Needs.{needs}
-use Rattle.expressions.proofs.expression.on_expression_dot.Statement.{statement}
-use Rattle.expressions.proofs.expression.on_expression_dot.Tie as tie
+use Rattle.expression_keys.proofs.on_expression_dot.Statement.{statement}
+use Rattle.expression_keys.proofs.on_expression_dot.Tie as tie
 
 empty-key-requires : tie.Need-empty-key-requires
 empty-key-requires c κs = search needs

@@ -2,8 +2,8 @@
 -- Made by ./proofs from Proof.tmpl: change that.
 use mathlib.Core.Path.{refl}
 use borrow.Author.Needs.{needs}
-use Rattle.expressions.proofs.expression.on_expression_key.Statement.{statement}
-use Rattle.expressions.proofs.expression.on_expression_key.Tie as tie
+use Rattle.expression_keys.proofs.on_expression_key.Statement.{statement}
+use Rattle.expression_keys.proofs.on_expression_key.Tie as tie
 
 emit-requires : tie.Need-emit-requires
 emit-requires c κs = search needs
