@@ -19,7 +19,7 @@ use Rattle.scan.specs.Finding.{IsToken}
 use Rattle.scan.specs.ScanLaws.{until-hit}
 use Rattle.scan.specs.Codes.{codeOf}
 use Rattle.scan.specs.CodeLaws.{Alone, alone, space-start}
-use Rattle.text_records.specs.Put.{Put}
+use Rattle.token_records.specs.Put.{Put}
 
 -- the size of one byte
 one : (at : ℕ) (buffer : List ℕ) {out : ℕ} {after : List ℕ} (number : ℕ) → ((n : ℕ) → out ≡ 6 * n → after ≡ putAt buffer n 1 number) → (n : ℕ) → out ≡ 6 * n → after ≡ putAt buffer n (at + 1 - at) number

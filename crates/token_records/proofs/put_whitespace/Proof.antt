@@ -3,10 +3,10 @@
 use mathlib.Core.Path.{refl, sym, _∙_}
 use native.Mathlib.Omega.{arith}
 use Rattle.scan.specs.CodeLaws.{space-start}
-use Rattle.text_records.specs.PutLaws.{put-is, put-space}
+use Rattle.token_records.specs.PutLaws.{put-is, put-space}
 use borrow.Author.Needs.{needs}
-use Rattle.text_records.proofs.put_whitespace.Statement.{statement}
-use Rattle.text_records.proofs.put_whitespace.Tie as tie
+use Rattle.token_records.proofs.put_whitespace.Statement.{statement}
+use Rattle.token_records.proofs.put_whitespace.Tie as tie
 
 add-whitespace-ends : tie.Need-add-whitespace-ends
 add-whitespace-ends c = search needs

@@ -4,10 +4,10 @@ use mathlib.Core.Path.{sym, _∙_}
 use native.Mathlib.Omega.{arith}
 use Rattle.scan.specs.TokenLaws.{literal-is}
 use Rattle.scan.specs.CodeLaws.{apostrophe-start}
-use Rattle.text_records.specs.PutLaws.{put-is}
+use Rattle.token_records.specs.PutLaws.{put-is}
 use borrow.Author.Needs.{needs}
-use Rattle.text_records.proofs.put_literal.Statement.{statement}
-use Rattle.text_records.proofs.put_literal.Tie as tie
+use Rattle.token_records.proofs.put_literal.Statement.{statement}
+use Rattle.token_records.proofs.put_literal.Tie as tie
 
 starts-three-requires : tie.Need-starts-three-requires
 starts-three-requires c κs = omega (arith, (c .before .before .pre) .0)

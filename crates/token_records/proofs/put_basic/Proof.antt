@@ -4,10 +4,10 @@ use mathlib.Core.Path.{sym, _∙_}
 use native.Mathlib.Omega.{arith}
 use Rattle.scan.specs.TokenLaws.{basic-is}
 use Rattle.scan.specs.CodeLaws.{quotation-mark-start}
-use Rattle.text_records.specs.PutLaws.{put-is}
+use Rattle.token_records.specs.PutLaws.{put-is}
 use borrow.Author.Needs.{needs}
-use Rattle.text_records.proofs.put_basic.Statement.{statement}
-use Rattle.text_records.proofs.put_basic.Tie as tie
+use Rattle.token_records.proofs.put_basic.Statement.{statement}
+use Rattle.token_records.proofs.put_basic.Tie as tie
 
 starts-three-requires : tie.Need-starts-three-requires
 starts-three-requires c κs = omega (arith, (c .before .before .pre) .0)

@@ -8,8 +8,8 @@ use lib.ListN.{take, drop, length-set}
 use Rattle.token.specs.Writing.{recordOf, putAt}
 use Rattle.token.specs.WritingLaws.{six-stores}
 use borrow.Author.Needs.{needs}
-use Rattle.text_records.proofs.put.Statement.{statement}
-use Rattle.text_records.proofs.put.Tie as tie
+use Rattle.token_records.proofs.put.Statement.{statement}
+use Rattle.token_records.proofs.put.Tie as tie
 
 cast-records : tie.Need-cast-records
 cast-records c = search needs

@@ -2,10 +2,10 @@
 -- Made by ./proofs from Proof.tmpl: change that.
 use mathlib.Core.Path.{refl}
 use native.Mathlib.Omega.{arith}
-use Rattle.text_records.specs.PutLaws.{put-found}
+use Rattle.token_records.specs.PutLaws.{put-found}
 use borrow.Author.Needs.{needs}
-use Rattle.text_records.proofs.put_any.Statement.{statement}
-use Rattle.text_records.proofs.put_any.Tie as tie
+use Rattle.token_records.proofs.put_any.Statement.{statement}
+use Rattle.token_records.proofs.put_any.Tie as tie
 
 process-token-requires : tie.Need-process-token-requires
 process-token-requires c κs = (c .before .before .pre) .0
