@@ -1,8 +1,8 @@
 // What is done in an inline table where one event or report is not all: the middle of a turn, which then says what is next.
 use inline_parts::parts::missing;
 use inline_parts::parts::refuse;
-use inline_parts::parts::table_dot;
-use inline_parts::parts::table_key;
+use table_keys::table_dot;
+use table_keys::table_key;
 use inline_parts::parts::trailing_comma;
 use output::emitting::Counts;
 use output::emitting::Walk;

@@ -1,10 +1,10 @@
 -- The key's first part, and the rest of it.
 -- Made by ./proofs from Proof.tmpl: change that.
 use Rattle.output.specs.WalkLaws.{after-item}
-use Rattle.inline_parts.proofs.PairLaws.{key-put}
+use Rattle.table_keys.proofs.PairLaws.{key-put}
 use borrow.Author.Needs.{needs}
-use Rattle.inline_parts.proofs.parts.table_key.Statement.{statement}
-use Rattle.inline_parts.proofs.parts.table_key.Tie as tie
+use Rattle.table_keys.proofs.table_key.Statement.{statement}
+use Rattle.table_keys.proofs.table_key.Tie as tie
 
 encoding-at-requires : tie.Need-encoding-at-requires
 encoding-at-requires c κs = search needs

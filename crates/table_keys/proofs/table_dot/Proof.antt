@@ -4,8 +4,8 @@ use native.Mathlib.Omega.{arith}
 use Rattle.output.specs.WalkLaws.{after-item}
 use Rattle.key_dots.specs.DotLaws.{dot-goes}
 use borrow.Author.Needs.{needs}
-use Rattle.inline_parts.proofs.parts.table_dot.Statement.{statement}
-use Rattle.inline_parts.proofs.parts.table_dot.Tie as tie
+use Rattle.table_keys.proofs.table_dot.Statement.{statement}
+use Rattle.table_keys.proofs.table_dot.Tie as tie
 
 empty-key-requires : tie.Need-empty-key-requires
 empty-key-requires c κs = search needs
