@@ -3,10 +3,10 @@
 use mathlib.Core.Path.{refl, sym, _∙_}
 use native.Mathlib.Omega.{arith}
 use Rattle.output.specs.WalkLaws.{by-rule, first-item, run-done, goes-by, goes-as, after-item}
-use Rattle.simple_keys.proofs.SimpleKeyLaws.{missing-by}
+use Rattle.simple_parts.proofs.SimpleKeyLaws.{missing-by}
 use borrow.Author.Needs.{needs}
-use Rattle.simple_keys.proofs.on_missing_key.Statement.{statement}
-use Rattle.simple_keys.proofs.on_missing_key.Tie as tie
+use Rattle.simple_parts.proofs.on_missing_key.Statement.{statement}
+use Rattle.simple_parts.proofs.on_missing_key.Tie as tie
 
 report-before-requires : tie.Need-report-before-requires
 report-before-requires c κs = search needs

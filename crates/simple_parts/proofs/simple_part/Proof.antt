@@ -3,10 +3,10 @@
 use mathlib.Core.Path.{refl, _∙_}
 use native.Mathlib.Omega.{arith}
 use Rattle.output.specs.WalkLaws.{by-rule, first-item, run-done, goes-by}
-use Rattle.simple_keys.proofs.SimpleKeyLaws.{simple-by}
+use Rattle.simple_parts.proofs.SimpleKeyLaws.{simple-by}
 use borrow.Author.Needs.{needs}
-use Rattle.simple_keys.proofs.simple_part.Statement.{statement}
-use Rattle.simple_keys.proofs.simple_part.Tie as tie
+use Rattle.simple_parts.proofs.simple_part.Statement.{statement}
+use Rattle.simple_parts.proofs.simple_part.Tie as tie
 
 enum-told : tie.Need-enum-told
 enum-told c = search needs
