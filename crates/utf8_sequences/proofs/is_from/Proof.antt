@@ -5,11 +5,11 @@ use mathlib.Core.Bool.{true}
 use lib.Dec.{leb}
 use borrow.Author.Tests.{le-leb}
 use Rattle.places.specs.PlaceLaws.{peeks-here, peeks-out}
-use Rattle.utf8.specs.Utf8.{from, within}
-use Rattle.utf8.specs.Utf8Laws.{is-below}
+use Rattle.utf8_sequences.specs.Utf8.{from, within}
+use Rattle.utf8_sequences.specs.Utf8Laws.{is-below}
 use borrow.Author.Needs.{needs}
-use Rattle.utf8.proofs.is_from.Statement.{statement}
-use Rattle.utf8.proofs.is_from.Tie as tie
+use Rattle.utf8_sequences.proofs.is_from.Statement.{statement}
+use Rattle.utf8_sequences.proofs.is_from.Tie as tie
 
 shared-slice-read-b : tie.Need-shared-slice-read-b
 shared-slice-read-b c = search needs

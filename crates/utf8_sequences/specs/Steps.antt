@@ -5,7 +5,7 @@ use mathlib.Core.List.{List}
 use Prim.Native.Nat.{ℕ, _+_, _≤_}
 use lib.ListN.{length, drop}
 use lib.Dec.{leb}
-use Rattle.utf8.specs.Utf8.{validUpTo}
+use Rattle.utf8_sequences.specs.Utf8.{validUpTo}
 
 abbrev pub isAscii : ℕ → Bool
 isAscii b = leb b 127

@@ -2,11 +2,11 @@
 -- Made by ./proofs from Proof.tmpl: change that.
 use mathlib.Core.Path.{sym, _∙_}
 use native.Mathlib.Omega.{arith}
-use Rattle.utf8.specs.Utf8.{from}
-use Rattle.utf8.specs.Utf8Laws.{fits-three}
+use Rattle.utf8_sequences.specs.Utf8.{from}
+use Rattle.utf8_sequences.specs.Utf8Laws.{fits-three}
 use borrow.Author.Needs.{needs}
-use Rattle.utf8.proofs.four.Statement.{statement}
-use Rattle.utf8.proofs.four.Tie as tie
+use Rattle.utf8_sequences.proofs.four.Statement.{statement}
+use Rattle.utf8_sequences.proofs.four.Tie as tie
 
 is-from-requires : tie.Need-is-from-requires
 is-from-requires c κs = search needs

@@ -3,11 +3,11 @@
 use mathlib.Core.Path.{sym, _∙_}
 use native.Mathlib.Omega.{arith}
 use lib.ListN.{getD}
-use Rattle.utf8.specs.Utf8.{fits}
-use Rattle.utf8.specs.Utf8Laws.{sequence-by, is-within, is-below, is-above}
+use Rattle.utf8_sequences.specs.Utf8.{fits}
+use Rattle.utf8_sequences.specs.Utf8Laws.{sequence-by, is-within, is-below, is-above}
 use borrow.Author.Needs.{needs}
-use Rattle.utf8.proofs.sequence_at.Statement.{statement}
-use Rattle.utf8.proofs.sequence_at.Tie as tie
+use Rattle.utf8_sequences.proofs.sequence_at.Statement.{statement}
+use Rattle.utf8_sequences.proofs.sequence_at.Tie as tie
 
 shared-slice-read-b : tie.Need-shared-slice-read-b
 shared-slice-read-b c = search needs

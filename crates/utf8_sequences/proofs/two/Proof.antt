@@ -1,11 +1,11 @@
 -- By the bytes in their order.
 -- Made by ./proofs from Proof.tmpl: change that.
 use mathlib.Core.Path.{sym, _∙_}
-use Rattle.utf8.specs.Utf8.{tail}
-use Rattle.utf8.specs.Utf8Laws.{fits-one}
+use Rattle.utf8_sequences.specs.Utf8.{tail}
+use Rattle.utf8_sequences.specs.Utf8Laws.{fits-one}
 use borrow.Author.Needs.{needs}
-use Rattle.utf8.proofs.two.Statement.{statement}
-use Rattle.utf8.proofs.two.Tie as tie
+use Rattle.utf8_sequences.proofs.two.Statement.{statement}
+use Rattle.utf8_sequences.proofs.two.Tie as tie
 
 is-from-requires : tie.Need-is-from-requires
 is-from-requires c κs = search needs

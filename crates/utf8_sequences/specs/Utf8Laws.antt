@@ -10,8 +10,8 @@ use lib.Dec.{eqb, leb, ltb}
 use borrow.Author.Tests.{le-leb, lt-leb, leb-true, leb-false}
 use Rattle.places.specs.Places.{peeks, allOf, Passed}
 use Rattle.places.specs.PlaceLaws.{here, peeks-here, peeks-out, Still, begun, onward, all-first, all-none, passed-on, passed-still}
-use Rattle.utf8.specs.Utf8.{Range, from, within, tail, table, fits, sequenceOf, behindFirst, validFrom, validUpTo}
-use Rattle.utf8.specs.Steps.{isAscii, Stepped}
+use Rattle.utf8_sequences.specs.Utf8.{Range, from, within, tail, table, fits, sequenceOf, behindFirst, validFrom, validUpTo}
+use Rattle.utf8_sequences.specs.Steps.{isAscii, Stepped}
 
 -- a byte and a range
 pub is-within : (low high b : ℕ) → low ≤ b → b ≤ high → within (from low high) b ≡ true
