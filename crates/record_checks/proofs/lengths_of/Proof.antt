@@ -3,10 +3,10 @@
 use mathlib.Core.Path.{_≡_, _∙_}
 use native.Mathlib.Omega.{arith}
 use Prim.Native.Nat.{_-_, _≤_}
-use Rattle.checks.proofs.StretchLaws.{Added, added-none, one-added}
+use Rattle.record_checks.proofs.StretchLaws.{Added, added-none, one-added}
 use borrow.Author.Needs.{needs}
-use Rattle.checks.proofs.check.lengths_of.Statement.{statement}
-use Rattle.checks.proofs.check.lengths_of.Tie as tie
+use Rattle.record_checks.proofs.lengths_of.Statement.{statement}
+use Rattle.record_checks.proofs.lengths_of.Tie as tie
 
 abbrev Inv-loop : tie.InvT-loop
 Inv-loop s i k lengths₀ nth₀ lengths nth = Added s i nth lengths × (nth ≤ k)

@@ -10,7 +10,7 @@ use borrow.Author.Tests.{eqb-true, eq-eqb}
 use Rattle.token.specs.Records.{count, lengthAt}
 use Rattle.token.specs.Check.{checkedFrom, passed}
 use Rattle.token.specs.CheckLaws.{Summed, summed-on, summed-refused}
-use Rattle.checks.specs.Stretches.{fitsAt, allFit, lengthsOf, Narrow}
+use Rattle.record_checks.specs.Stretches.{fitsAt, allFit, lengthsOf, Narrow}
 
 -- a stretch, record by record
 module _ (s : List ℕ) (i : ℕ) where

@@ -4,11 +4,11 @@ use mathlib.Core.Path.{_≡_, refl, sym, _∙_}
 use mathlib.Core.Bool.{true}
 use native.Mathlib.Omega.{arith}
 use Prim.Native.Nat.{_-_, _≤_}
-use Rattle.checks.specs.Stretches.{allFit}
-use Rattle.checks.proofs.StretchLaws.{one-fits, one-does-not}
+use Rattle.record_checks.specs.Stretches.{allFit}
+use Rattle.record_checks.proofs.StretchLaws.{one-fits, one-does-not}
 use borrow.Author.Needs.{needs}
-use Rattle.checks.proofs.check.all_fit.Statement.{statement}
-use Rattle.checks.proofs.check.all_fit.Tie as tie
+use Rattle.record_checks.proofs.all_fit.Statement.{statement}
+use Rattle.record_checks.proofs.all_fit.Tie as tie
 
 abbrev Inv-loop : tie.InvT-loop
 Inv-loop s i k nth₀ nth = (allFit nth s i ≡ true) × (nth ≤ k)

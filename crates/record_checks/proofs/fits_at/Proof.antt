@@ -6,8 +6,8 @@ use Prim.Native.Nat.{ℕ}
 use Rattle.token.specs.Records.{lengthAt}
 use Rattle.token.specs.Check.{recordRefusal}
 use borrow.Author.Needs.{needs}
-use Rattle.checks.proofs.check.fits_at.Statement.{statement}
-use Rattle.checks.proofs.check.fits_at.Tie as tie
+use Rattle.record_checks.proofs.fits_at.Statement.{statement}
+use Rattle.record_checks.proofs.fits_at.Tie as tie
 
 kind-number-at-requires : tie.Need-kind-number-at-requires
 kind-number-at-requires c κs = search needs

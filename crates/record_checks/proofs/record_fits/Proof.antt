@@ -6,8 +6,8 @@ use borrow.Author.Tests.{lt-ltb, le-ltb}
 use Prim.Native.Nat.{_<_, _≤_}
 use Rattle.token.specs.Kinds.{Width, widthFits}
 use Rattle.token.specs.CheckLaws.{width-by, fits-by}
-use Rattle.checks.proofs.check.record_fits.Statement.{statement}
-use Rattle.checks.proofs.check.record_fits.Tie as tie
+use Rattle.record_checks.proofs.record_fits.Statement.{statement}
+use Rattle.record_checks.proofs.record_fits.Tie as tie
 
 returns : tie.Need-returns
 returns c =

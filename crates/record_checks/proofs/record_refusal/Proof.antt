@@ -6,8 +6,8 @@ use borrow.Author.Tests.{lt-ltb, le-ltb}
 use Rattle.token.specs.Kinds.{kindOf, widthOf, widthFits}
 use Rattle.token.specs.CheckLaws.{fits-by}
 use borrow.Author.Needs.{needs}
-use Rattle.checks.proofs.check.record_refusal.Statement.{statement}
-use Rattle.checks.proofs.check.record_refusal.Tie as tie
+use Rattle.record_checks.proofs.record_refusal.Statement.{statement}
+use Rattle.record_checks.proofs.record_refusal.Tie as tie
 
 returns : tie.Need-returns
 returns c = simp (lt-ltb _ _ ((c .if1) .taken))
