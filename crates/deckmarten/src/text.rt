@@ -1,9 +1,9 @@
 // Text in, for programs in C and Rust: the lexer by itself, the joined entry, and the yes of a text.
 use choices::modes::Chosen;
 use choices::modes::choose;
+use export_answers::options::ExportedOptions;
 use export_texts::judgements::ExportedVerdict;
 use export_texts::judgements::exported_verdict;
-use export_answers::options::ExportedOptions;
 use export_texts::text::ExportedLexed;
 use export_texts::text::ExportedTextAnswer;
 use export_texts::text::exported_lexed;

@@ -1,8 +1,6 @@
 // What is done in an inline table where one event or report is not all: the middle of a turn, which then says what is next.
 use inline_parts::parts::missing;
 use inline_parts::parts::refuse;
-use table_keys::table_dot;
-use table_keys::table_key;
 use inline_parts::parts::trailing_comma;
 use output::emitting::Counts;
 use output::emitting::Walk;
@@ -23,6 +21,8 @@ use rules::skipping::Bracket;
 use scalars::scalar::on_scalar;
 use skip_brackets::brackets::ignore_to_value_close;
 use skip_lines::skipping::on_comment;
+use table_keys::table_dot;
+use table_keys::table_key;
 use token::cursor::Cursor;
 use token::cursor::Token;
 ghost use mathlib.Core.Path.{_≡_};

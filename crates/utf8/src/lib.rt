@@ -1,5 +1,6 @@
 // How far a text is well-formed UTF-8.
 pub mod theorems;
+
 use utf8_sequences::sequence_at;
 ghost use mathlib.Core.Path.{_≡_};
 ghost use mathlib.Core.Bool.{cond};

@@ -3,10 +3,10 @@
 use native.Mathlib.Omega.{arith}
 use lib.ListN.{length-set}
 use borrow.Author.Tests.{lt-ltb, le-ltb}
-use Rattle.output.specs.Pour.{putEvent}
+use Rattle.buffer_puts.specs.Puts.{putEvent}
 use borrow.Author.Needs.{needs}
-use Rattle.output.proofs.emitting.put_event.Statement.{statement}
-use Rattle.output.proofs.emitting.put_event.Tie as tie
+use Rattle.buffer_puts.proofs.put_event.Statement.{statement}
+use Rattle.buffer_puts.proofs.put_event.Tie as tie
 
 mul-b : tie.Need-mul-b
 mul-b c = search needs

@@ -5,7 +5,7 @@ use Prim.Native.Nat.{ℕ, _<_, _≤_}
 use native.Mathlib.Omega.{arith}
 use lib.Dec.{ltb}
 use borrow.Author.Tests.{lt-ltb, ltb-true}
-use Rattle.output.specs.Pour.{capped}
+use Rattle.buffer_puts.specs.Puts.{capped}
 
 -- below the bound a record's number is itself
 pub capped-known : (n : ℕ) → n < 2147483647 → capped n ≡ n

@@ -5,10 +5,10 @@ use Prim.Native.Nat.{_/_}
 use lib.ListN.{length, length-set}
 use borrow.Author.Tests.{lt-ltb, le-ltb}
 use Rattle.rules.specs.Answer.{errorSize}
-use Rattle.output.specs.Pour.{putError}
+use Rattle.buffer_puts.specs.Puts.{putError}
 use borrow.Author.Needs.{needs}
-use Rattle.output.proofs.emitting.put_error.Statement.{statement}
-use Rattle.output.proofs.emitting.put_error.Tie as tie
+use Rattle.buffer_puts.proofs.put_error.Statement.{statement}
+use Rattle.buffer_puts.proofs.put_error.Tie as tie
 
 mul-b : tie.Need-mul-b
 mul-b c = omega (arith, (c .before .good) .0 .1, (c .if1) .taken)

@@ -1,10 +1,10 @@
 -- By the test.
 -- Made by ./proofs from Proof.tmpl: change that.
 use borrow.Author.Tests.{lt-ltb, le-ltb}
-use Rattle.output.specs.Pour.{capped}
+use Rattle.buffer_puts.specs.Puts.{capped}
 use borrow.Author.Needs.{needs}
-use Rattle.output.proofs.emitting.capped.Statement.{statement}
-use Rattle.output.proofs.emitting.capped.Tie as tie
+use Rattle.buffer_puts.proofs.capped.Statement.{statement}
+use Rattle.buffer_puts.proofs.capped.Tie as tie
 
 cast-result : tie.Need-cast-result
 cast-result c = search needs

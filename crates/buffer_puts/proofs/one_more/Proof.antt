@@ -1,10 +1,10 @@
 -- By the test.
 -- Made by ./proofs from Proof.tmpl: change that.
 use borrow.Author.Tests.{lt-ltb, le-ltb}
-use Rattle.output.specs.Pour.{more}
+use Rattle.buffer_puts.specs.Puts.{more}
 use borrow.Author.Needs.{needs}
-use Rattle.output.proofs.emitting.one_more.Statement.{statement}
-use Rattle.output.proofs.emitting.one_more.Tie as tie
+use Rattle.buffer_puts.proofs.one_more.Statement.{statement}
+use Rattle.buffer_puts.proofs.one_more.Tie as tie
 
 add-result : tie.Need-add-result
 add-result c = search needs
