@@ -30,6 +30,7 @@ ghost use mathlib.Core.List.{List};
 ghost use Prim.Native.Nat.{ℕ, _-_};
 ghost use lib.ListN.{length};
 ghost use Rattle.token.specs.Tokens.{Tok, Good, tokensAt};
+ghost use Rattle.rules.specs.declared.skipping.Bracket.{Bracket};
 ghost use Rattle.rules.specs.Out.{span};
 ghost use Rattle.rules.specs.Scalar.{startingOf};
 ghost use Rattle.output.specs.Pour.{bufs, pour};
@@ -79,23 +80,40 @@ pub fn equals_without_key(t: Token, m: Counts, events: &mut [u32]) -> Counts
     emit(events, n, Event::KeyValSep, t.start, t.end)
 }
 
-// A bracket that opens a value where a key is wanted: it is skipped up to where it closes.
-pub fn keyless(
+// A `[` where a key is wanted: it is skipped up to where it closes. It and the next are two, so that each is compiled into its one caller.
+pub fn keyless_array(
     s: &[u8],
     head: Token,
     t: Token,
     c: Cursor,
     m: Counts,
     p: Progress,
-    closing: Bracket,
     events: &mut [u32],
     errors: &mut [u32],
 ) -> Walk
     requires { ⌜ Good (now s) c ⌝ }
-    ensures { λ r. ⌜ Goes (now (s .entry)) (keylessOut closing (p .state) (span (head .start) (head .end)) (t .start) (t .end) (tokensAt (now (s .entry)) c)) c (bufs (now (events .entry)) (now (errors .entry)) m) (now (events .exit)) (now (errors .exit)) r ⌝ }
+    ensures { λ r. ⌜ Goes (now (s .entry)) (keylessOut Bracket.Square (p .state) (span (head .start) (head .end)) (t .start) (t .end) (tokensAt (now (s .entry)) c)) c (bufs (now (events .entry)) (now (errors .entry)) m) (now (events .exit)) (now (errors .exit)) r ⌝ }
 {
     let n = refuse(m, MISSING_KEY_IN_INLINE_TABLE, p, head, t, events, errors);
-    ignore_to_value_close(s, c, n, closing, events, errors)
+    ignore_to_value_close(s, c, n, Bracket::Square, events, errors)
+}
+
+// A `{` where a key is wanted.
+pub fn keyless_table(
+    s: &[u8],
+    head: Token,
+    t: Token,
+    c: Cursor,
+    m: Counts,
+    p: Progress,
+    events: &mut [u32],
+    errors: &mut [u32],
+) -> Walk
+    requires { ⌜ Good (now s) c ⌝ }
+    ensures { λ r. ⌜ Goes (now (s .entry)) (keylessOut Bracket.Curly (p .state) (span (head .start) (head .end)) (t .start) (t .end) (tokensAt (now (s .entry)) c)) c (bufs (now (events .entry)) (now (errors .entry)) m) (now (events .exit)) (now (errors .exit)) r ⌝ }
+{
+    let n = refuse(m, MISSING_KEY_IN_INLINE_TABLE, p, head, t, events, errors);
+    ignore_to_value_close(s, c, n, Bracket::Curly, events, errors)
 }
 
 // A scalar where `=` is wanted: a report, then the scalar.

@@ -18,7 +18,8 @@ use inline_steps::dot_without_comma;
 use inline_steps::eof;
 use inline_steps::equals_without_key;
 use inline_steps::key_without_comma;
-use inline_steps::keyless;
+use inline_steps::keyless_array;
+use inline_steps::keyless_table;
 use inline_steps::newline;
 use inline_steps::unassigned_scalar;
 use output::emitting::Counts;
@@ -126,11 +127,11 @@ pub fn inline_table_turn(
             unread(past, n, p)
         }
         Action::KeylessArray => {
-            let w = keyless(s, head, t, past, m, p, Bracket::Square, events, errors);
+            let w = keyless_array(s, head, t, past, m, p, events, errors);
             unread_walk(w, p)
         }
         Action::KeylessTable => {
-            let w = keyless(s, head, t, past, m, p, Bracket::Curly, events, errors);
+            let w = keyless_table(s, head, t, past, m, p, events, errors);
             unread_walk(w, p)
         }
         Action::UnassignedArray => {

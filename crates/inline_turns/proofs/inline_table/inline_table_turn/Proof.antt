@@ -141,8 +141,8 @@ unread-requires-5 c κs = search needs
 enum-told-11 : tie.Need-enum-told-11
 enum-told-11 c = search needs
 
-keyless-requires : tie.Need-keyless-requires
-keyless-requires c κs = (told _ _ _ _ _ ((c .before .before .before .before .before .before .before .before .next) .ensures) ((c .before .before .before .before .before .before .step) .given .1)) .good
+keyless-array-requires : tie.Need-keyless-array-requires
+keyless-array-requires c κs = (told _ _ _ _ _ ((c .before .before .before .before .before .before .before .before .next) .ensures) ((c .before .before .before .before .before .before .step) .given .1)) .good
 
 unread-walk-requires-2 : tie.Need-unread-walk-requires-2
 unread-walk-requires-2 c κs = search needs
@@ -150,8 +150,8 @@ unread-walk-requires-2 c κs = search needs
 enum-told-12 : tie.Need-enum-told-12
 enum-told-12 c = search needs
 
-keyless-requires-2 : tie.Need-keyless-requires-2
-keyless-requires-2 c κs = (told _ _ _ _ _ ((c .before .before .before .before .before .before .before .before .next) .ensures) ((c .before .before .before .before .before .before .step) .given .1)) .good
+keyless-table-requires : tie.Need-keyless-table-requires
+keyless-table-requires c κs = (told _ _ _ _ _ ((c .before .before .before .before .before .before .before .before .next) .ensures) ((c .before .before .before .before .before .before .step) .given .1)) .good
 
 unread-walk-requires-3 : tie.Need-unread-walk-requires-3
 unread-walk-requires-3 c κs = search needs
@@ -343,7 +343,7 @@ same-length-18 : tie.Need-same-length-18
 same-length-18 c = search needs
 
 returns-11 : tie.Need-returns-11
-returns-11 c = table-as ((c .unread-walk2) .ensures) (record { is = λ base q nest loop. (table-at _ _ _ _ (told _ _ _ _ _ ((c .before .before .before .before .before .before .before .before .before .before .before .before .before .before .next) .ensures) ((c .before .before .before .before .before .before .before .before .before .before .before .before .step) .given .1)) _ _ ((c .before .before .before .before .before .before .before .before .before .before .before .before .before .before .before .before .before .before .args) .p) ((c .before .before .before .before .before .before .before .before .before .before .action-at) .ensures) ((c .before .before .before .before .before .before .before .before .enum-told11) .given .1) _ _ (span ((c .before .before .before .before .before .before .before .before .before .before .before .before .before .before .before .before .before .before .args) .head .start) ((c .before .before .before .before .before .before .before .before .before .before .before .before .before .before .before .before .before .before .args) .head .end)) (count ((c .before .before .before .before .before .before .before .before .before .before .before .before .before .before .before .before .before .before .args) .s .now) - (c .before .before .before .before .before .before .before .before .before .before .before .before .before .before .before .before .before .before .args) .opened) nest loop) ∙ then-goes (loop (progress ((c .before .before .before .before .before .before .before .before .before .before .before .before .before .before .before .before .before .before .args) .p .state) ((c .before .before .before .before .before .before .before .before .before .before .before .before .before .before .before .before .before .before .args) .p .empty))) ((c .before .before .before .before .before .keyless) .ensures) base ((told _ _ _ _ _ ((c .before .before .before .before .before .before .before .before .before .before .before .before .before .before .next) .ensures) ((c .before .before .before .before .before .before .before .before .before .before .before .before .step) .given .1)) .base ∙ q); good = (c .before .before .before .before .before .keyless) .ensures .good; on = omega (arith, (told _ _ _ _ _ ((c .before .before .before .before .before .before .before .before .before .before .before .before .before .before .next) .ensures) ((c .before .before .before .before .before .before .before .before .before .before .before .before .step) .given .1)) .on, (c .before .before .before .before .before .keyless) .ensures .on); base = (c .before .before .before .before .before .keyless) .ensures .base ∙ (told _ _ _ _ _ ((c .before .before .before .before .before .before .before .before .before .before .before .before .before .before .next) .ensures) ((c .before .before .before .before .before .before .before .before .before .before .before .before .step) .given .1)) .base })
+returns-11 c = table-as ((c .unread-walk2) .ensures) (record { is = λ base q nest loop. (table-at _ _ _ _ (told _ _ _ _ _ ((c .before .before .before .before .before .before .before .before .before .before .before .before .before .before .next) .ensures) ((c .before .before .before .before .before .before .before .before .before .before .before .before .step) .given .1)) _ _ ((c .before .before .before .before .before .before .before .before .before .before .before .before .before .before .before .before .before .before .args) .p) ((c .before .before .before .before .before .before .before .before .before .before .action-at) .ensures) ((c .before .before .before .before .before .before .before .before .enum-told11) .given .1) _ _ (span ((c .before .before .before .before .before .before .before .before .before .before .before .before .before .before .before .before .before .before .args) .head .start) ((c .before .before .before .before .before .before .before .before .before .before .before .before .before .before .before .before .before .before .args) .head .end)) (count ((c .before .before .before .before .before .before .before .before .before .before .before .before .before .before .before .before .before .before .args) .s .now) - (c .before .before .before .before .before .before .before .before .before .before .before .before .before .before .before .before .before .before .args) .opened) nest loop) ∙ then-goes (loop (progress ((c .before .before .before .before .before .before .before .before .before .before .before .before .before .before .before .before .before .before .args) .p .state) ((c .before .before .before .before .before .before .before .before .before .before .before .before .before .before .before .before .before .before .args) .p .empty))) ((c .before .before .before .before .before .keyless-array) .ensures) base ((told _ _ _ _ _ ((c .before .before .before .before .before .before .before .before .before .before .before .before .before .before .next) .ensures) ((c .before .before .before .before .before .before .before .before .before .before .before .before .step) .given .1)) .base ∙ q); good = (c .before .before .before .before .before .keyless-array) .ensures .good; on = omega (arith, (told _ _ _ _ _ ((c .before .before .before .before .before .before .before .before .before .before .before .before .before .before .next) .ensures) ((c .before .before .before .before .before .before .before .before .before .before .before .before .step) .given .1)) .on, (c .before .before .before .before .before .keyless-array) .ensures .on); base = (c .before .before .before .before .before .keyless-array) .ensures .base ∙ (told _ _ _ _ _ ((c .before .before .before .before .before .before .before .before .before .before .before .before .before .before .next) .ensures) ((c .before .before .before .before .before .before .before .before .before .before .before .before .step) .given .1)) .base })
 
 same-length-19 : tie.Need-same-length-19
 same-length-19 c = search needs
@@ -352,7 +352,7 @@ same-length-20 : tie.Need-same-length-20
 same-length-20 c = search needs
 
 returns-12 : tie.Need-returns-12
-returns-12 c = table-as ((c .unread-walk3) .ensures) (record { is = λ base q nest loop. (table-at _ _ _ _ (told _ _ _ _ _ ((c .before .before .before .before .before .before .before .before .before .before .before .before .before .before .next) .ensures) ((c .before .before .before .before .before .before .before .before .before .before .before .before .step) .given .1)) _ _ ((c .before .before .before .before .before .before .before .before .before .before .before .before .before .before .before .before .before .before .args) .p) ((c .before .before .before .before .before .before .before .before .before .before .action-at) .ensures) ((c .before .before .before .before .before .before .before .before .enum-told12) .given .1) _ _ (span ((c .before .before .before .before .before .before .before .before .before .before .before .before .before .before .before .before .before .before .args) .head .start) ((c .before .before .before .before .before .before .before .before .before .before .before .before .before .before .before .before .before .before .args) .head .end)) (count ((c .before .before .before .before .before .before .before .before .before .before .before .before .before .before .before .before .before .before .args) .s .now) - (c .before .before .before .before .before .before .before .before .before .before .before .before .before .before .before .before .before .before .args) .opened) nest loop) ∙ then-goes (loop (progress ((c .before .before .before .before .before .before .before .before .before .before .before .before .before .before .before .before .before .before .args) .p .state) ((c .before .before .before .before .before .before .before .before .before .before .before .before .before .before .before .before .before .before .args) .p .empty))) ((c .before .before .before .before .before .keyless2) .ensures) base ((told _ _ _ _ _ ((c .before .before .before .before .before .before .before .before .before .before .before .before .before .before .next) .ensures) ((c .before .before .before .before .before .before .before .before .before .before .before .before .step) .given .1)) .base ∙ q); good = (c .before .before .before .before .before .keyless2) .ensures .good; on = omega (arith, (told _ _ _ _ _ ((c .before .before .before .before .before .before .before .before .before .before .before .before .before .before .next) .ensures) ((c .before .before .before .before .before .before .before .before .before .before .before .before .step) .given .1)) .on, (c .before .before .before .before .before .keyless2) .ensures .on); base = (c .before .before .before .before .before .keyless2) .ensures .base ∙ (told _ _ _ _ _ ((c .before .before .before .before .before .before .before .before .before .before .before .before .before .before .next) .ensures) ((c .before .before .before .before .before .before .before .before .before .before .before .before .step) .given .1)) .base })
+returns-12 c = table-as ((c .unread-walk3) .ensures) (record { is = λ base q nest loop. (table-at _ _ _ _ (told _ _ _ _ _ ((c .before .before .before .before .before .before .before .before .before .before .before .before .before .before .next) .ensures) ((c .before .before .before .before .before .before .before .before .before .before .before .before .step) .given .1)) _ _ ((c .before .before .before .before .before .before .before .before .before .before .before .before .before .before .before .before .before .before .args) .p) ((c .before .before .before .before .before .before .before .before .before .before .action-at) .ensures) ((c .before .before .before .before .before .before .before .before .enum-told12) .given .1) _ _ (span ((c .before .before .before .before .before .before .before .before .before .before .before .before .before .before .before .before .before .before .args) .head .start) ((c .before .before .before .before .before .before .before .before .before .before .before .before .before .before .before .before .before .before .args) .head .end)) (count ((c .before .before .before .before .before .before .before .before .before .before .before .before .before .before .before .before .before .before .args) .s .now) - (c .before .before .before .before .before .before .before .before .before .before .before .before .before .before .before .before .before .before .args) .opened) nest loop) ∙ then-goes (loop (progress ((c .before .before .before .before .before .before .before .before .before .before .before .before .before .before .before .before .before .before .args) .p .state) ((c .before .before .before .before .before .before .before .before .before .before .before .before .before .before .before .before .before .before .args) .p .empty))) ((c .before .before .before .before .before .keyless-table) .ensures) base ((told _ _ _ _ _ ((c .before .before .before .before .before .before .before .before .before .before .before .before .before .before .next) .ensures) ((c .before .before .before .before .before .before .before .before .before .before .before .before .step) .given .1)) .base ∙ q); good = (c .before .before .before .before .before .keyless-table) .ensures .good; on = omega (arith, (told _ _ _ _ _ ((c .before .before .before .before .before .before .before .before .before .before .before .before .before .before .next) .ensures) ((c .before .before .before .before .before .before .before .before .before .before .before .before .step) .given .1)) .on, (c .before .before .before .before .before .keyless-table) .ensures .on); base = (c .before .before .before .before .before .keyless-table) .ensures .base ∙ (told _ _ _ _ _ ((c .before .before .before .before .before .before .before .before .before .before .before .before .before .before .next) .ensures) ((c .before .before .before .before .before .before .before .before .before .before .before .before .step) .given .1)) .base })
 
 same-length-21 : tie.Need-same-length-21
 same-length-21 c = search needs
@@ -500,10 +500,10 @@ inline-table-turn-spec =
     refuse-requires-2
     unread-requires-5
     enum-told-11
-    keyless-requires
+    keyless-array-requires
     unread-walk-requires-2
     enum-told-12
-    keyless-requires-2
+    keyless-table-requires
     unread-walk-requires-3
     enum-told-13
     missing-requires

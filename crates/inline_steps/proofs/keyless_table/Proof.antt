@@ -5,8 +5,8 @@ use Rattle.rules.specs.Messages as message
 use Rattle.rules.specs.InlineTable.{refused}
 use Rattle.inline_steps.proofs.StepLaws.{after-items}
 use borrow.Author.Needs.{needs}
-use Rattle.inline_steps.proofs.keyless.Statement.{statement}
-use Rattle.inline_steps.proofs.keyless.Tie as tie
+use Rattle.inline_steps.proofs.keyless_table.Statement.{statement}
+use Rattle.inline_steps.proofs.keyless_table.Tie as tie
 
 refuse-requires : tie.Need-refuse-requires
 refuse-requires c κs = search needs
@@ -23,8 +23,8 @@ same-length-2 c = search needs
 returns : tie.Need-returns
 returns c = after-items (refused message.missingKeyInInlineTable ((c .before .before .before .before .before .before .before .before .before .before .before .before .before .before .before .before .before .args) .p .state) (span ((c .before .before .before .before .before .before .before .before .before .before .before .before .before .before .before .before .before .args) .head .start) ((c .before .before .before .before .before .before .before .before .before .before .before .before .before .before .before .before .before .args) .head .end)) ((c .before .before .before .before .before .before .before .before .before .before .before .before .before .before .before .before .before .args) .t .start) ((c .before .before .before .before .before .before .before .before .before .before .before .before .before .before .before .before .before .args) .t .end)) _ (λ all. (c .before .before .before .before .before .before .before .before .before .before .before .refuse) .ensures all) ((c .before .before .before .before .ignore-to-value-close) .ensures)
 
-pub keyless-spec : {M : Type 1} → statement M
-keyless-spec =
+pub keyless-table-spec : {M : Type 1} → statement M
+keyless-table-spec =
     tie.close
     (tie.spec
     refuse-requires
