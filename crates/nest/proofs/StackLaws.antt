@@ -26,7 +26,7 @@ use Rattle.array_parts.specs.Turning.{goOn, Further, Wants}
 use Rattle.nest.specs.declared.nest.NestWalk.{NestWalk}
 use Rattle.nest.specs.Nested.{Nested}
 use Rattle.nest.specs.NestedLaws.{nested-stop, nested-done, then-nested, nested-from}
-use Rattle.nest.specs.Ran.{Enough, Left, Ran}
+use Rattle.array_runs.specs.Ran.{Enough, Left, Ran}
 use Rattle.nest.proofs.NestLaws.{open-array, no-level}
 
 -- an array that waits: where it was opened, the turns still allowed, and the levels allowed in it

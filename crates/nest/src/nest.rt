@@ -1,8 +1,8 @@
 // Arrays and inline tables open one another; the levels still allowed fall at each opening.
 // What is handed to a function lies in memory from then on, so copies are handed on, and the loops' own cursor and counts stay in
 // registers.
-use crate::turns::array_turns;
 use array_parts::turn::Next;
+use array_runs::turns::array_turns;
 use inline_actions::action_table;
 use inline_turns::inline_table::inline_table_turn;
 use output::emitting::Counts;

@@ -15,9 +15,10 @@ use Rattle.rules.specs.Nest.{onOpen}
 use Rattle.output.specs.Pour.{bufs}
 use Rattle.output.specs.TurnLaws.{Turns, turns-begun}
 use Rattle.inline_actions.specs.Actions.{actionTable}
+use Rattle.array_runs.specs.TurnedLaws.{turn-moved, turn-next}
 use Rattle.nest.specs.NestedLaws.{nested-item, nested-as}
 use Rattle.nest.proofs.StackLaws.{Stacked, stack-begun, stack-moved, stack-over-moved, stack-array-moved, stack-table-moved, stack-next, stack-over, stack-pop, stack-push, stack-none, stack-array-again, stack-array-stop, stack-table-again, stack-table-stop}
-use Rattle.nest.proofs.NestLaws.{turn-moved, turn-next, turn-over, array-moved, table-moved, array-again, array-stop, table-again, table-stop, open-array, open-table, no-level}
+use Rattle.nest.proofs.NestLaws.{turn-over, array-moved, table-moved, array-again, array-stop, table-again, table-stop, open-array, open-table, no-level}
 use borrow.Author.Needs.{needs}
 use borrow.Fn.Kinds.{In}
 use borrow.Fn.PlainCycle.{Measures, is, falls, and}
@@ -29,7 +30,7 @@ use Rattle.nest.proofs.nest.on_inline_table_open.Kinds as on-inline-tab
 use Rattle.nest.proofs.nest.+on_array_open+on_inline_table_open.Lts-on_inline_table_open as on-inline-table-open-lts
 use Rattle.inline_actions.proofs.action_table.Reads as action-table-reads
 use Rattle.inline_turns.proofs.inline_table.inline_table_turn.Reads as inline-table-turn-reads
-use Rattle.nest.proofs.turns.array_turns.Reads as array-turns-reads
+use Rattle.array_runs.proofs.turns.array_turns.Reads as array-turns-reads
 use Rattle.output.proofs.emitting.emit.Reads as emit-reads
 use Rattle.nest.proofs.nest.+on_array_open+on_inline_table_open.{statement}
 use Rattle.nest.proofs.nest.+on_array_open+on_inline_table_open.Tie.{close}
