@@ -5,11 +5,11 @@ use array_parts::turn::Next;
 use array_runs::turns::array_turns;
 use inline_actions::action_table;
 use inline_turns::inline_table::inline_table_turn;
+use openings::array_open;
+use openings::table_open;
 use output::emitting::Counts;
 use output::emitting::Walk;
-use output::emitting::emit;
 use rules::array::ArrayState;
-use rules::event::Event;
 use rules::inline_table::Progress;
 use rules::inline_table::State;
 use rules::options::Settings;
@@ -68,7 +68,7 @@ pub fn on_array_open(
             stopped: true,
         };
     }
-    let mut n = emit(events, m, Event::ArrayOpen, head.start, head.end);
+    let mut n = array_open(events, m, head);
     let mut cur = c;
     let mut state = ArrayState::NeedsValue;
     let mut left = levels - 1;
@@ -116,7 +116,7 @@ pub fn on_array_open(
                     depth += 1;
                     left -= 1;
                     inner = t;
-                    n = emit(events, n, Event::ArrayOpen, t.start, t.end);
+                    n = array_open(events, n, t);
                     state = ArrayState::NeedsValue;
                 } else {
                     let list = s;
@@ -176,7 +176,7 @@ pub fn on_inline_table_open(
             stopped: true,
         };
     }
-    let mut n = emit(events, m, Event::InlineTableOpen, head.start, head.end);
+    let mut n = table_open(events, m, head);
     // By its parts, so that the compiler hands it over in memory: in two words its place would have to be taken out at each turn.
     let mut cur = Cursor {
         at: c.at,

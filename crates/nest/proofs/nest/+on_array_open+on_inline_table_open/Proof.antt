@@ -28,10 +28,11 @@ use Rattle.nest.proofs.nest.+on_array_open+on_inline_table_open.Lts-on_
 use Rattle.nest.proofs.nest.on_inline_table_open.Reads as on-inline-table-open
 use Rattle.nest.proofs.nest.on_inline_table_open.Kinds as on-inline-table-open-kinds
 use Rattle.nest.proofs.nest.+on_array_open+on_inline_table_open.Lts-on_inline_table_open as on-inline-table-open-lts
+use Rattle.array_runs.proofs.turns.array_turns.Reads as array-turns-reads
 use Rattle.inline_actions.proofs.action_table.Reads as action-table-reads
 use Rattle.inline_turns.proofs.inline_table.inline_table_turn.Reads as inline-table-turn-reads
-use Rattle.array_runs.proofs.turns.array_turns.Reads as array-turns-reads
-use Rattle.output.proofs.emitting.emit.Reads as emit-reads
+use Rattle.openings.proofs.array_open.Reads as array-open-reads
+use Rattle.openings.proofs.table_open.Reads as table-open-reads
 use Rattle.nest.proofs.nest.+on_array_open+on_inline_table_open.{statement}
 use Rattle.nest.proofs.nest.+on_array_open+on_inline_table_open.Tie.{close}
 
@@ -62,8 +63,8 @@ abbrev on-array-open-μ-loop : on-array-open-lts.MeasureT-loop
 on-array-open-μ-loop s events₀ errors₀ levels options n₀ cur₀ state₀ left₀ inner₀ starts₀ ends₀ depth₀ events errors n cur state left inner starts ends depth = (count s - cur .at) + (count s - cur .at) + depth
 
 on-array-open-returns : (t : ℕ) → on-array-open-lts.Need-returns (
-  emit-reads.Asked,
-  emit-reads.Learnt,
+  array-open-reads.Asked,
+  array-open-reads.Learnt,
   array-turns-reads.Asked,
   array-turns-reads.Learnt,
   on-array-open-below t,
@@ -73,9 +74,9 @@ on-array-open-returns : (t : ℕ) → on-array-open-lts.Need-returns (
 ) (on-array-open-at t) on-array-open.Post on-array-open-Inv-loop on-array-open-μ-loop
 on-array-open-returns t c = no-level ((c .before .before .before .before .before .args) .settings .levels) Bracket.Square _ _ _ _ _ _ ((c .if1) .taken) ((c .before .before .before .before .before .pre) .1)
 
-on-array-open-emit-requires : (t : ℕ) → on-array-open-lts.Need-emit-requires (
-  emit-reads.Asked,
-  emit-reads.Learnt,
+on-array-open-array-open-requires : (t : ℕ) → on-array-open-lts.Need-array-open-requires (
+  array-open-reads.Asked,
+  array-open-reads.Learnt,
   array-turns-reads.Asked,
   array-turns-reads.Learnt,
   on-array-open-below t,
@@ -83,11 +84,11 @@ on-array-open-emit-requires : (t : ℕ) → on-array-open-lts.Need-emit-requires
   on-inline-table-open-below t,
   on-inline-table-open.Post,
 ) (on-array-open-at t) on-array-open.Post on-array-open-Inv-loop on-array-open-μ-loop
-on-array-open-emit-requires t c κs = search needs
+on-array-open-array-open-requires t c κs = search needs
 
 on-array-open-sub-left : (t : ℕ) → on-array-open-lts.Need-sub-left (
-  emit-reads.Asked,
-  emit-reads.Learnt,
+  array-open-reads.Asked,
+  array-open-reads.Learnt,
   array-turns-reads.Asked,
   array-turns-reads.Learnt,
   on-array-open-below t,
@@ -98,8 +99,8 @@ on-array-open-sub-left : (t : ℕ) → on-array-open-lts.Need-sub-left (
 on-array-open-sub-left t c = omega (arith, (c .before .before .before .before .if1) .left)
 
 on-array-open-loop-holds : (t : ℕ) → on-array-open-lts.Need-loop-holds (
-  emit-reads.Asked,
-  emit-reads.Learnt,
+  array-open-reads.Asked,
+  array-open-reads.Learnt,
   array-turns-reads.Asked,
   array-turns-reads.Learnt,
   on-array-open-below t,
@@ -110,8 +111,8 @@ on-array-open-loop-holds : (t : ℕ) → on-array-open-lts.Need-loop-holds (
 on-array-open-loop-holds t c = (stack-begun _ _ _ _ _ _ _ _ _ ((c .before .before .before .before .if1) .left) ((c .before .before .before .before .before .before .before .before .before .pre) .1), refl, refl, refl, refl, omega arith)
 
 on-array-open-array-turns-requires : (t : ℕ) → on-array-open-lts.Need-array-turns-requires (
-  emit-reads.Asked,
-  emit-reads.Learnt,
+  array-open-reads.Asked,
+  array-open-reads.Learnt,
   array-turns-reads.Asked,
   array-turns-reads.Learnt,
   on-array-open-below t,
@@ -122,8 +123,8 @@ on-array-open-array-turns-requires : (t : ℕ) → on-array-open-lts.Need-array-
 on-array-open-array-turns-requires t c κs = ((c .before .before .loop) .inv .0) .good
 
 on-array-open-enum-told : (t : ℕ) → on-array-open-lts.Need-enum-told (
-  emit-reads.Asked,
-  emit-reads.Learnt,
+  array-open-reads.Asked,
+  array-open-reads.Learnt,
   array-turns-reads.Asked,
   array-turns-reads.Learnt,
   on-array-open-below t,
@@ -134,8 +135,8 @@ on-array-open-enum-told : (t : ℕ) → on-array-open-lts.Need-enum-told (
 on-array-open-enum-told t c = search needs
 
 on-array-open-loop-less : (t : ℕ) → on-array-open-lts.Need-loop-less (
-  emit-reads.Asked,
-  emit-reads.Learnt,
+  array-open-reads.Asked,
+  array-open-reads.Learnt,
   array-turns-reads.Asked,
   array-turns-reads.Learnt,
   on-array-open-below t,
@@ -146,8 +147,8 @@ on-array-open-loop-less : (t : ℕ) → on-array-open-lts.Need-loop-less (
 on-array-open-loop-less t c = omega (arith, stack-moved ((c .before .before .before .before .before .before .before .before .before .before .before .before .loop) .inv .0) _ ((c .before .before .before .before .before .before .before .before .before .array-turns) .ensures) ((c .enum-told) .given .1), (c .before .before .before .before .before .before .before .before .before .array-turns) .ensures .good .low)
 
 on-array-open-loop-again : (t : ℕ) → on-array-open-lts.Need-loop-again (
-  emit-reads.Asked,
-  emit-reads.Learnt,
+  array-open-reads.Asked,
+  array-open-reads.Learnt,
   array-turns-reads.Asked,
   array-turns-reads.Learnt,
   on-array-open-below t,
@@ -158,8 +159,8 @@ on-array-open-loop-again : (t : ℕ) → on-array-open-lts.Need-loop-again (
 on-array-open-loop-again t c = (stack-next ((c .before .before .before .before .before .before .before .before .before .before .before .before .loop) .inv .0) _ ((c .before .before .before .before .before .before .before .before .before .array-turns) .ensures) ((c .enum-told) .given .1), (c .before .before .before .before .before .before .before .before .before .before .before .before .loop) .inv .1, (c .before .before .before .before .before .before .before .before .before .before .before .before .loop) .inv .2, ((c .before .before .before .before .before .before .before .before .before .array-turns .kept .1 .1 .1 .1 .1 .0)) ∙ (c .before .before .before .before .before .before .before .before .before .before .before .before .loop) .inv .3, ((c .before .before .before .before .before .before .before .before .before .array-turns .kept .1 .1 .1 .1 .1 .1 .0)) ∙ (c .before .before .before .before .before .before .before .before .before .before .before .before .loop) .inv .4, omega (arith, (c .before .before .before .before .before .before .before .before .before .before .before .before .loop) .inv .5))
 
 on-array-open-enum-told-2 : (t : ℕ) → on-array-open-lts.Need-enum-told-2 (
-  emit-reads.Asked,
-  emit-reads.Learnt,
+  array-open-reads.Asked,
+  array-open-reads.Learnt,
   array-turns-reads.Asked,
   array-turns-reads.Learnt,
   on-array-open-below t,
@@ -170,8 +171,8 @@ on-array-open-enum-told-2 : (t : ℕ) → on-array-open-lts.Need-enum-told-2 (
 on-array-open-enum-told-2 t c = search needs
 
 on-array-open-same-length : (t : ℕ) → on-array-open-lts.Need-same-length (
-  emit-reads.Asked,
-  emit-reads.Learnt,
+  array-open-reads.Asked,
+  array-open-reads.Learnt,
   array-turns-reads.Asked,
   array-turns-reads.Learnt,
   on-array-open-below t,
@@ -179,11 +180,11 @@ on-array-open-same-length : (t : ℕ) → on-array-open-lts.Need-same-length (
   on-inline-table-open-below t,
   on-inline-table-open.Post,
 ) (on-array-open-at t) on-array-open.Post on-array-open-Inv-loop on-array-open-μ-loop
-on-array-open-same-length t c = ((c .before .before .before .before .before .before .before .before .before .before .array-turns .kept .1 .1 .1 .1 .1 .0)) ∙ (c .before .before .before .before .before .before .before .before .before .before .before .before .before .loop) .inv .3 ∙ (c .before .before .before .before .before .before .before .before .before .before .before .before .before .before .before .before .emit) .kept .0
+on-array-open-same-length t c = ((c .before .before .before .before .before .before .before .before .before .before .array-turns .kept .1 .1 .1 .1 .1 .0)) ∙ (c .before .before .before .before .before .before .before .before .before .before .before .before .before .loop) .inv .3 ∙ (c .before .before .before .before .before .before .before .before .before .before .before .before .before .before .before .before .array-open) .kept .0
 
 on-array-open-same-length-2 : (t : ℕ) → on-array-open-lts.Need-same-length-2 (
-  emit-reads.Asked,
-  emit-reads.Learnt,
+  array-open-reads.Asked,
+  array-open-reads.Learnt,
   array-turns-reads.Asked,
   array-turns-reads.Learnt,
   on-array-open-below t,
@@ -194,8 +195,8 @@ on-array-open-same-length-2 : (t : ℕ) → on-array-open-lts.Need-same-length-2
 on-array-open-same-length-2 t c = ((c .before .before .before .before .before .before .before .before .before .before .array-turns .kept .1 .1 .1 .1 .1 .1 .0)) ∙ (c .before .before .before .before .before .before .before .before .before .before .before .before .before .loop) .inv .4
 
 on-array-open-returns-2 : (t : ℕ) → on-array-open-lts.Need-returns-2 (
-  emit-reads.Asked,
-  emit-reads.Learnt,
+  array-open-reads.Asked,
+  array-open-reads.Learnt,
   array-turns-reads.Asked,
   array-turns-reads.Learnt,
   on-array-open-below t,
@@ -203,11 +204,11 @@ on-array-open-returns-2 : (t : ℕ) → on-array-open-lts.Need-returns-2 (
   on-inline-table-open-below t,
   on-inline-table-open.Post,
 ) (on-array-open-at t) on-array-open.Post on-array-open-Inv-loop on-array-open-μ-loop
-on-array-open-returns-2 t c = nested-as (open-array ((c .before .before .before .before .before .before .before .before .before .before .before .before .before .before .before .before .before .before .before .before .before .before .before .args) .settings .levels) _ _ _ ((c .before .before .before .before .before .before .before .before .before .before .before .before .before .before .before .before .before .before .if1) .left)) (nested-item _ _ (λ all. (c .before .before .before .before .before .before .before .before .before .before .before .before .before .before .before .before .emit) .ensures all _) (stack-over ((c .before .before .before .before .before .before .before .before .before .before .before .before .before .loop) .inv .0) _ ((c .before .before .before .before .before .before .before .before .before .before .array-turns) .ensures) ((c .before .enum-told2) .given .1) ((c .if2) .taken)))
+on-array-open-returns-2 t c = nested-as (open-array ((c .before .before .before .before .before .before .before .before .before .before .before .before .before .before .before .before .before .before .before .before .before .before .before .args) .settings .levels) _ _ _ ((c .before .before .before .before .before .before .before .before .before .before .before .before .before .before .before .before .before .before .if1) .left)) (nested-item _ _ (λ all. (c .before .before .before .before .before .before .before .before .before .before .before .before .before .before .before .before .array-open) .ensures all _) (stack-over ((c .before .before .before .before .before .before .before .before .before .before .before .before .before .loop) .inv .0) _ ((c .before .before .before .before .before .before .before .before .before .before .array-turns) .ensures) ((c .before .enum-told2) .given .1) ((c .if2) .taken)))
 
 on-array-open-sub-depth : (t : ℕ) → on-array-open-lts.Need-sub-depth (
-  emit-reads.Asked,
-  emit-reads.Learnt,
+  array-open-reads.Asked,
+  array-open-reads.Learnt,
   array-turns-reads.Asked,
   array-turns-reads.Learnt,
   on-array-open-below t,
@@ -218,8 +219,8 @@ on-array-open-sub-depth : (t : ℕ) → on-array-open-lts.Need-sub-depth (
 on-array-open-sub-depth t c = omega (arith, (c .if2) .left)
 
 on-array-open-add-left : (t : ℕ) → on-array-open-lts.Need-add-left (
-  emit-reads.Asked,
-  emit-reads.Learnt,
+  array-open-reads.Asked,
+  array-open-reads.Learnt,
   array-turns-reads.Asked,
   array-turns-reads.Learnt,
   on-array-open-below t,
@@ -229,9 +230,9 @@ on-array-open-add-left : (t : ℕ) → on-array-open-lts.Need-add-left (
 ) (on-array-open-at t) on-array-open.Post on-array-open-Inv-loop on-array-open-μ-loop
 on-array-open-add-left t c = omega (arith, ((c .before .before .before .before .before .before .before .before .before .before .before .before .before .loop) .inv .0) .sum, (c .if2) .left, (c .before .before .before .before .before .before .before .before .before .before .before .before .before .before .before .before .before .before .before .before .before .before .before .good))
 
-on-array-open-mul-t45 : (t : ℕ) → on-array-open-lts.Need-mul-t45 (
-  emit-reads.Asked,
-  emit-reads.Learnt,
+on-array-open-mul-t44 : (t : ℕ) → on-array-open-lts.Need-mul-t44 (
+  array-open-reads.Asked,
+  array-open-reads.Learnt,
   array-turns-reads.Asked,
   array-turns-reads.Learnt,
   on-array-open-below t,
@@ -239,11 +240,11 @@ on-array-open-mul-t45 : (t : ℕ) → on-array-open-lts.Need-mul-t45 (
   on-inline-table-open-below t,
   on-inline-table-open.Post,
 ) (on-array-open-at t) on-array-open.Post on-array-open-Inv-loop on-array-open-μ-loop
-on-array-open-mul-t45 t c = record { fits = omega (arith, (c .before .before .before .before .before .before .before .before .before .before .before .before .before .loop) .inv .5) }
+on-array-open-mul-t44 t c = record { fits = omega (arith, (c .before .before .before .before .before .before .before .before .before .before .before .before .before .loop) .inv .5) }
 
-on-array-open-array-read-t48 : (t : ℕ) → on-array-open-lts.Need-array-read-t48 (
-  emit-reads.Asked,
-  emit-reads.Learnt,
+on-array-open-array-read-t47 : (t : ℕ) → on-array-open-lts.Need-array-read-t47 (
+  array-open-reads.Asked,
+  array-open-reads.Learnt,
   array-turns-reads.Asked,
   array-turns-reads.Learnt,
   on-array-open-below t,
@@ -251,11 +252,11 @@ on-array-open-array-read-t48 : (t : ℕ) → on-array-open-lts.Need-array-read-t
   on-inline-table-open-below t,
   on-inline-table-open.Post,
 ) (on-array-open-at t) on-array-open.Post on-array-open-Inv-loop on-array-open-μ-loop
-on-array-open-array-read-t48 t c = omega (arith, (c .before .before .before .before .before .before .before .before .before .before .before .before .before .loop) .inv .5, (c .if2) .left)
+on-array-open-array-read-t47 t c = omega (arith, (c .before .before .before .before .before .before .before .before .before .before .before .before .before .loop) .inv .5, (c .if2) .left)
 
-on-array-open-mul-t49 : (t : ℕ) → on-array-open-lts.Need-mul-t49 (
-  emit-reads.Asked,
-  emit-reads.Learnt,
+on-array-open-mul-t48 : (t : ℕ) → on-array-open-lts.Need-mul-t48 (
+  array-open-reads.Asked,
+  array-open-reads.Learnt,
   array-turns-reads.Asked,
   array-turns-reads.Learnt,
   on-array-open-below t,
@@ -263,11 +264,11 @@ on-array-open-mul-t49 : (t : ℕ) → on-array-open-lts.Need-mul-t49 (
   on-inline-table-open-below t,
   on-inline-table-open.Post,
 ) (on-array-open-at t) on-array-open.Post on-array-open-Inv-loop on-array-open-μ-loop
-on-array-open-mul-t49 t c = record { fits = omega (arith, (c .before .before .before .before .before .before .before .before .before .before .before .before .before .loop) .inv .5) }
+on-array-open-mul-t48 t c = record { fits = omega (arith, (c .before .before .before .before .before .before .before .before .before .before .before .before .before .loop) .inv .5) }
 
-on-array-open-array-read-t52 : (t : ℕ) → on-array-open-lts.Need-array-read-t52 (
-  emit-reads.Asked,
-  emit-reads.Learnt,
+on-array-open-array-read-t51 : (t : ℕ) → on-array-open-lts.Need-array-read-t51 (
+  array-open-reads.Asked,
+  array-open-reads.Learnt,
   array-turns-reads.Asked,
   array-turns-reads.Learnt,
   on-array-open-below t,
@@ -275,11 +276,11 @@ on-array-open-array-read-t52 : (t : ℕ) → on-array-open-lts.Need-array-read-t
   on-inline-table-open-below t,
   on-inline-table-open.Post,
 ) (on-array-open-at t) on-array-open.Post on-array-open-Inv-loop on-array-open-μ-loop
-on-array-open-array-read-t52 t c = omega (arith, (c .before .before .before .before .before .before .before .before .before .before .before .before .before .loop) .inv .5, (c .if2) .left)
+on-array-open-array-read-t51 t c = omega (arith, (c .before .before .before .before .before .before .before .before .before .before .before .before .before .loop) .inv .5, (c .if2) .left)
 
 on-array-open-loop-less-2 : (t : ℕ) → on-array-open-lts.Need-loop-less-2 (
-  emit-reads.Asked,
-  emit-reads.Learnt,
+  array-open-reads.Asked,
+  array-open-reads.Learnt,
   array-turns-reads.Asked,
   array-turns-reads.Learnt,
   on-array-open-below t,
@@ -290,8 +291,8 @@ on-array-open-loop-less-2 : (t : ℕ) → on-array-open-lts.Need-loop-less-2 (
 on-array-open-loop-less-2 t c = omega (arith, stack-over-moved ((c .before .before .before .before .before .before .before .before .before .before .before .before .before .loop) .inv .0) _ ((c .before .before .before .before .before .before .before .before .before .before .array-turns) .ensures) ((c .before .enum-told2) .given .1), (c .before .before .before .before .before .before .before .before .before .before .array-turns) .ensures .good .low, (c .if2) .left)
 
 on-array-open-loop-again-2 : (t : ℕ) → on-array-open-lts.Need-loop-again-2 (
-  emit-reads.Asked,
-  emit-reads.Learnt,
+  array-open-reads.Asked,
+  array-open-reads.Learnt,
   array-turns-reads.Asked,
   array-turns-reads.Learnt,
   on-array-open-below t,
@@ -302,8 +303,8 @@ on-array-open-loop-again-2 : (t : ℕ) → on-array-open-lts.Need-loop-again-2 (
 on-array-open-loop-again-2 t c = (stack-pop ((c .before .before .before .before .before .before .before .before .before .before .before .before .before .loop) .inv .0) _ ((c .before .before .before .before .before .before .before .before .before .before .array-turns) .ensures) ((c .before .enum-told2) .given .1) ((c .if2) .left), (c .before .before .before .before .before .before .before .before .before .before .before .before .before .loop) .inv .1, (c .before .before .before .before .before .before .before .before .before .before .before .before .before .loop) .inv .2, ((c .before .before .before .before .before .before .before .before .before .before .array-turns .kept .1 .1 .1 .1 .1 .0)) ∙ (c .before .before .before .before .before .before .before .before .before .before .before .before .before .loop) .inv .3, ((c .before .before .before .before .before .before .before .before .before .before .array-turns .kept .1 .1 .1 .1 .1 .1 .0)) ∙ (c .before .before .before .before .before .before .before .before .before .before .before .before .before .loop) .inv .4, omega (arith, (c .before .before .before .before .before .before .before .before .before .before .before .before .before .loop) .inv .5))
 
 on-array-open-enum-known-x : (t : ℕ) → on-array-open-lts.Need-enum-known-x (
-  emit-reads.Asked,
-  emit-reads.Learnt,
+  array-open-reads.Asked,
+  array-open-reads.Learnt,
   array-turns-reads.Asked,
   array-turns-reads.Learnt,
   on-array-open-below t,
@@ -314,8 +315,8 @@ on-array-open-enum-known-x : (t : ℕ) → on-array-open-lts.Need-enum-known-x (
 on-array-open-enum-known-x t c = search needs
 
 on-array-open-same-length-3 : (t : ℕ) → on-array-open-lts.Need-same-length-3 (
-  emit-reads.Asked,
-  emit-reads.Learnt,
+  array-open-reads.Asked,
+  array-open-reads.Learnt,
   array-turns-reads.Asked,
   array-turns-reads.Learnt,
   on-array-open-below t,
@@ -323,11 +324,11 @@ on-array-open-same-length-3 : (t : ℕ) → on-array-open-lts.Need-same-length-3
   on-inline-table-open-below t,
   on-inline-table-open.Post,
 ) (on-array-open-at t) on-array-open.Post on-array-open-Inv-loop on-array-open-μ-loop
-on-array-open-same-length-3 t c = ((c .before .before .before .before .before .before .before .before .before .before .before .array-turns .kept .1 .1 .1 .1 .1 .0)) ∙ (c .before .before .before .before .before .before .before .before .before .before .before .before .before .before .loop) .inv .3 ∙ (c .before .before .before .before .before .before .before .before .before .before .before .before .before .before .before .before .before .emit) .kept .0
+on-array-open-same-length-3 t c = ((c .before .before .before .before .before .before .before .before .before .before .before .array-turns .kept .1 .1 .1 .1 .1 .0)) ∙ (c .before .before .before .before .before .before .before .before .before .before .before .before .before .before .loop) .inv .3 ∙ (c .before .before .before .before .before .before .before .before .before .before .before .before .before .before .before .before .before .array-open) .kept .0
 
 on-array-open-same-length-4 : (t : ℕ) → on-array-open-lts.Need-same-length-4 (
-  emit-reads.Asked,
-  emit-reads.Learnt,
+  array-open-reads.Asked,
+  array-open-reads.Learnt,
   array-turns-reads.Asked,
   array-turns-reads.Learnt,
   on-array-open-below t,
@@ -338,8 +339,8 @@ on-array-open-same-length-4 : (t : ℕ) → on-array-open-lts.Need-same-length-4
 on-array-open-same-length-4 t c = ((c .before .before .before .before .before .before .before .before .before .before .before .array-turns .kept .1 .1 .1 .1 .1 .1 .0)) ∙ (c .before .before .before .before .before .before .before .before .before .before .before .before .before .before .loop) .inv .4
 
 on-array-open-returns-3 : (t : ℕ) → on-array-open-lts.Need-returns-3 (
-  emit-reads.Asked,
-  emit-reads.Learnt,
+  array-open-reads.Asked,
+  array-open-reads.Learnt,
   array-turns-reads.Asked,
   array-turns-reads.Learnt,
   on-array-open-below t,
@@ -347,11 +348,11 @@ on-array-open-returns-3 : (t : ℕ) → on-array-open-lts.Need-returns-3 (
   on-inline-table-open-below t,
   on-inline-table-open.Post,
 ) (on-array-open-at t) on-array-open.Post on-array-open-Inv-loop on-array-open-μ-loop
-on-array-open-returns-3 t c = nested-as (open-array ((c .before .before .before .before .before .before .before .before .before .before .before .before .before .before .before .before .before .before .before .before .before .before .before .before .args) .settings .levels) _ _ _ ((c .before .before .before .before .before .before .before .before .before .before .before .before .before .before .before .before .before .before .before .if1) .left)) (nested-item _ _ (λ all. (c .before .before .before .before .before .before .before .before .before .before .before .before .before .before .before .before .before .emit) .ensures all _) (stack-none ((c .before .before .before .before .before .before .before .before .before .before .before .before .before .before .loop) .inv .0) _ ((c .before .before .before .before .before .before .before .before .before .before .before .array-turns) .ensures) _ ((c .before .before .x) .given .1) ((c .if3) .taken)))
+on-array-open-returns-3 t c = nested-as (open-array ((c .before .before .before .before .before .before .before .before .before .before .before .before .before .before .before .before .before .before .before .before .before .before .before .before .args) .settings .levels) _ _ _ ((c .before .before .before .before .before .before .before .before .before .before .before .before .before .before .before .before .before .before .before .if1) .left)) (nested-item _ _ (λ all. (c .before .before .before .before .before .before .before .before .before .before .before .before .before .before .before .before .before .array-open) .ensures all _) (stack-none ((c .before .before .before .before .before .before .before .before .before .before .before .before .before .before .loop) .inv .0) _ ((c .before .before .before .before .before .before .before .before .before .before .before .array-turns) .ensures) _ ((c .before .before .x) .given .1) ((c .if3) .taken)))
 
 on-array-open-mul-starts : (t : ℕ) → on-array-open-lts.Need-mul-starts (
-  emit-reads.Asked,
-  emit-reads.Learnt,
+  array-open-reads.Asked,
+  array-open-reads.Learnt,
   array-turns-reads.Asked,
   array-turns-reads.Learnt,
   on-array-open-below t,
@@ -362,8 +363,8 @@ on-array-open-mul-starts : (t : ℕ) → on-array-open-lts.Need-mul-starts (
 on-array-open-mul-starts t c = search needs
 
 on-array-open-array-write-starts : (t : ℕ) → on-array-open-lts.Need-array-write-starts (
-  emit-reads.Asked,
-  emit-reads.Learnt,
+  array-open-reads.Asked,
+  array-open-reads.Learnt,
   array-turns-reads.Asked,
   array-turns-reads.Learnt,
   on-array-open-below t,
@@ -374,8 +375,8 @@ on-array-open-array-write-starts : (t : ℕ) → on-array-open-lts.Need-array-wr
 on-array-open-array-write-starts t c = search needs
 
 on-array-open-mul-ends : (t : ℕ) → on-array-open-lts.Need-mul-ends (
-  emit-reads.Asked,
-  emit-reads.Learnt,
+  array-open-reads.Asked,
+  array-open-reads.Learnt,
   array-turns-reads.Asked,
   array-turns-reads.Learnt,
   on-array-open-below t,
@@ -386,8 +387,8 @@ on-array-open-mul-ends : (t : ℕ) → on-array-open-lts.Need-mul-ends (
 on-array-open-mul-ends t c = search needs
 
 on-array-open-array-write-ends : (t : ℕ) → on-array-open-lts.Need-array-write-ends (
-  emit-reads.Asked,
-  emit-reads.Learnt,
+  array-open-reads.Asked,
+  array-open-reads.Learnt,
   array-turns-reads.Asked,
   array-turns-reads.Learnt,
   on-array-open-below t,
@@ -398,8 +399,8 @@ on-array-open-array-write-ends : (t : ℕ) → on-array-open-lts.Need-array-writ
 on-array-open-array-write-ends t c = search needs
 
 on-array-open-add-depth : (t : ℕ) → on-array-open-lts.Need-add-depth (
-  emit-reads.Asked,
-  emit-reads.Learnt,
+  array-open-reads.Asked,
+  array-open-reads.Learnt,
   array-turns-reads.Asked,
   array-turns-reads.Learnt,
   on-array-open-below t,
@@ -410,8 +411,8 @@ on-array-open-add-depth : (t : ℕ) → on-array-open-lts.Need-add-depth (
 on-array-open-add-depth t c = search needs
 
 on-array-open-sub-left-2 : (t : ℕ) → on-array-open-lts.Need-sub-left-2 (
-  emit-reads.Asked,
-  emit-reads.Learnt,
+  array-open-reads.Asked,
+  array-open-reads.Learnt,
   array-turns-reads.Asked,
   array-turns-reads.Learnt,
   on-array-open-below t,
@@ -421,9 +422,9 @@ on-array-open-sub-left-2 : (t : ℕ) → on-array-open-lts.Need-sub-left-2 (
 ) (on-array-open-at t) on-array-open.Post on-array-open-Inv-loop on-array-open-μ-loop
 on-array-open-sub-left-2 t c = omega (arith, (c .before .if3) .left)
 
-on-array-open-emit-requires-2 : (t : ℕ) → on-array-open-lts.Need-emit-requires-2 (
-  emit-reads.Asked,
-  emit-reads.Learnt,
+on-array-open-array-open-requires-2 : (t : ℕ) → on-array-open-lts.Need-array-open-requires-2 (
+  array-open-reads.Asked,
+  array-open-reads.Learnt,
   array-turns-reads.Asked,
   array-turns-reads.Learnt,
   on-array-open-below t,
@@ -431,11 +432,11 @@ on-array-open-emit-requires-2 : (t : ℕ) → on-array-open-lts.Need-emit-requir
   on-inline-table-open-below t,
   on-inline-table-open.Post,
 ) (on-array-open-at t) on-array-open.Post on-array-open-Inv-loop on-array-open-μ-loop
-on-array-open-emit-requires-2 t c κs = search needs
+on-array-open-array-open-requires-2 t c κs = search needs
 
 on-array-open-loop-less-3 : (t : ℕ) → on-array-open-lts.Need-loop-less-3 (
-  emit-reads.Asked,
-  emit-reads.Learnt,
+  array-open-reads.Asked,
+  array-open-reads.Learnt,
   array-turns-reads.Asked,
   array-turns-reads.Learnt,
   on-array-open-below t,
@@ -446,8 +447,8 @@ on-array-open-loop-less-3 : (t : ℕ) → on-array-open-lts.Need-loop-less-3 (
 on-array-open-loop-less-3 t c = omega (arith, stack-array-moved ((c .before .before .before .before .before .before .before .before .before .before .before .before .before .before .before .before .before .before .before .loop) .inv .0) _ ((c .before .before .before .before .before .before .before .before .before .before .before .before .before .before .before .before .array-turns) .ensures) _ ((c .before .before .before .before .before .before .before .x) .given .1), (c .before .before .before .before .before .before .before .before .before .before .before .before .before .before .before .before .array-turns) .ensures .good .low)
 
 on-array-open-loop-again-3 : (t : ℕ) → on-array-open-lts.Need-loop-again-3 (
-  emit-reads.Asked,
-  emit-reads.Learnt,
+  array-open-reads.Asked,
+  array-open-reads.Learnt,
   array-turns-reads.Asked,
   array-turns-reads.Learnt,
   on-array-open-below t,
@@ -455,11 +456,11 @@ on-array-open-loop-again-3 : (t : ℕ) → on-array-open-lts.Need-loop-again-3 (
   on-inline-table-open-below t,
   on-inline-table-open.Post,
 ) (on-array-open-at t) on-array-open.Post on-array-open-Inv-loop on-array-open-μ-loop
-on-array-open-loop-again-3 t c = (stack-push ((c .before .before .before .before .before .before .before .before .before .before .before .before .before .before .before .before .before .before .before .loop) .inv .0) _ ((c .before .before .before .before .before .before .before .before .before .before .before .before .before .before .before .before .array-turns) .ensures) _ ((c .before .before .before .before .before .before .before .x) .given .1) ((c .before .before .before .before .before .if3) .left) (omega (arith, (c .before .before .before .before .if4) .taken, (c .before .before .before .before .before .before .before .before .before .before .before .before .before .before .before .before .before .before .before .loop) .inv .1)) (omega (arith, (c .before .before .before .before .if4) .taken, (c .before .before .before .before .before .before .before .before .before .before .before .before .before .before .before .before .before .before .before .loop) .inv .2)) _ (λ all. (c .before .before .emit2) .ensures all _), length-set ((c .before .before .before .before .before .before .before .before .before .before .before .before .before .before .before .before .before .before .before .loop) .starts) ((c .before .before .before .before .before .before .before .before .before .before .before .before .before .before .before .before .before .before .before .loop) .depth) ((c .before .before .before .before .before .before .before .before .before .before .before .before .before .before .before .before .before .before .before .loop) .inner .start) ∙ (c .before .before .before .before .before .before .before .before .before .before .before .before .before .before .before .before .before .before .before .loop) .inv .1, length-set ((c .before .before .before .before .before .before .before .before .before .before .before .before .before .before .before .before .before .before .before .loop) .ends) ((c .before .before .before .before .before .before .before .before .before .before .before .before .before .before .before .before .before .before .before .loop) .depth) ((c .before .before .before .before .before .before .before .before .before .before .before .before .before .before .before .before .before .before .before .loop) .inner .end) ∙ (c .before .before .before .before .before .before .before .before .before .before .before .before .before .before .before .before .before .before .before .loop) .inv .2, ((c .before .before .emit2 .kept .0) ∙ (c .before .before .before .before .before .before .before .before .before .before .before .before .before .before .before .before .array-turns .kept .1 .1 .1 .1 .1 .0)) ∙ (c .before .before .before .before .before .before .before .before .before .before .before .before .before .before .before .before .before .before .before .loop) .inv .3, ((c .before .before .before .before .before .before .before .before .before .before .before .before .before .before .before .before .array-turns .kept .1 .1 .1 .1 .1 .1 .0)) ∙ (c .before .before .before .before .before .before .before .before .before .before .before .before .before .before .before .before .before .before .before .loop) .inv .4, omega (arith, (c .before .before .before .before .if4) .taken))
+on-array-open-loop-again-3 t c = (stack-push ((c .before .before .before .before .before .before .before .before .before .before .before .before .before .before .before .before .before .before .before .loop) .inv .0) _ ((c .before .before .before .before .before .before .before .before .before .before .before .before .before .before .before .before .array-turns) .ensures) _ ((c .before .before .before .before .before .before .before .x) .given .1) ((c .before .before .before .before .before .if3) .left) (omega (arith, (c .before .before .before .before .if4) .taken, (c .before .before .before .before .before .before .before .before .before .before .before .before .before .before .before .before .before .before .before .loop) .inv .1)) (omega (arith, (c .before .before .before .before .if4) .taken, (c .before .before .before .before .before .before .before .before .before .before .before .before .before .before .before .before .before .before .before .loop) .inv .2)) _ (λ all. (c .before .before .array-open2) .ensures all _), length-set ((c .before .before .before .before .before .before .before .before .before .before .before .before .before .before .before .before .before .before .before .loop) .starts) ((c .before .before .before .before .before .before .before .before .before .before .before .before .before .before .before .before .before .before .before .loop) .depth) ((c .before .before .before .before .before .before .before .before .before .before .before .before .before .before .before .before .before .before .before .loop) .inner .start) ∙ (c .before .before .before .before .before .before .before .before .before .before .before .before .before .before .before .before .before .before .before .loop) .inv .1, length-set ((c .before .before .before .before .before .before .before .before .before .before .before .before .before .before .before .before .before .before .before .loop) .ends) ((c .before .before .before .before .before .before .before .before .before .before .before .before .before .before .before .before .before .before .before .loop) .depth) ((c .before .before .before .before .before .before .before .before .before .before .before .before .before .before .before .before .before .before .before .loop) .inner .end) ∙ (c .before .before .before .before .before .before .before .before .before .before .before .before .before .before .before .before .before .before .before .loop) .inv .2, ((c .before .before .array-open2 .kept .0) ∙ (c .before .before .before .before .before .before .before .before .before .before .before .before .before .before .before .before .array-turns .kept .1 .1 .1 .1 .1 .0)) ∙ (c .before .before .before .before .before .before .before .before .before .before .before .before .before .before .before .before .before .before .before .loop) .inv .3, ((c .before .before .before .before .before .before .before .before .before .before .before .before .before .before .before .before .array-turns .kept .1 .1 .1 .1 .1 .1 .0)) ∙ (c .before .before .before .before .before .before .before .before .before .before .before .before .before .before .before .before .before .before .before .loop) .inv .4, omega (arith, (c .before .before .before .before .if4) .taken))
 
 on-array-open-on-array-open-requires : (t : ℕ) → on-array-open-lts.Need-on-array-open-requires (
-  emit-reads.Asked,
-  emit-reads.Learnt,
+  array-open-reads.Asked,
+  array-open-reads.Learnt,
   array-turns-reads.Asked,
   array-turns-reads.Learnt,
   on-array-open-below t,
@@ -470,8 +471,8 @@ on-array-open-on-array-open-requires : (t : ℕ) → on-array-open-lts.Need-on-a
 on-array-open-on-array-open-requires t c κs = (omega (arith, ((c .before .before .before .before .before .before .before .before .before .before .before .before .before .before .before .before .before .loop) .inv .0) .sum, (c .before .before .before .before .before .before .before .before .before .before .before .before .before .before .before .before .before .before .before .before .before .before .before .before .before .before .before .pre) .0), (c .before .before .before .before .before .before .before .before .before .before .before .before .before .before .array-turns) .ensures .good)
 
 on-array-open-same-length-5 : (t : ℕ) → on-array-open-lts.Need-same-length-5 (
-  emit-reads.Asked,
-  emit-reads.Learnt,
+  array-open-reads.Asked,
+  array-open-reads.Learnt,
   array-turns-reads.Asked,
   array-turns-reads.Learnt,
   on-array-open-below t,
@@ -479,11 +480,11 @@ on-array-open-same-length-5 : (t : ℕ) → on-array-open-lts.Need-same-length-5
   on-inline-table-open-below t,
   on-inline-table-open.Post,
 ) (on-array-open-at t) on-array-open.Post on-array-open-Inv-loop on-array-open-μ-loop
-on-array-open-same-length-5 t c = ((c .before .before .before .before .before .on-array-open .kept .1 .1 .1 .1 .1 .0) ∙ (c .before .before .before .before .before .before .before .before .before .before .before .before .before .before .before .before .before .before .before .before .array-turns .kept .1 .1 .1 .1 .1 .0)) ∙ (c .before .before .before .before .before .before .before .before .before .before .before .before .before .before .before .before .before .before .before .before .before .before .before .loop) .inv .3 ∙ (c .before .before .before .before .before .before .before .before .before .before .before .before .before .before .before .before .before .before .before .before .before .before .before .before .before .before .emit) .kept .0
+on-array-open-same-length-5 t c = ((c .before .before .before .before .before .on-array-open .kept .1 .1 .1 .1 .1 .0) ∙ (c .before .before .before .before .before .before .before .before .before .before .before .before .before .before .before .before .before .before .before .before .array-turns .kept .1 .1 .1 .1 .1 .0)) ∙ (c .before .before .before .before .before .before .before .before .before .before .before .before .before .before .before .before .before .before .before .before .before .before .before .loop) .inv .3 ∙ (c .before .before .before .before .before .before .before .before .before .before .before .before .before .before .before .before .before .before .before .before .before .before .before .before .before .before .array-open) .kept .0
 
 on-array-open-same-length-6 : (t : ℕ) → on-array-open-lts.Need-same-length-6 (
-  emit-reads.Asked,
-  emit-reads.Learnt,
+  array-open-reads.Asked,
+  array-open-reads.Learnt,
   array-turns-reads.Asked,
   array-turns-reads.Learnt,
   on-array-open-below t,
@@ -494,8 +495,8 @@ on-array-open-same-length-6 : (t : ℕ) → on-array-open-lts.Need-same-length-6
 on-array-open-same-length-6 t c = ((c .before .before .before .before .before .on-array-open .kept .1 .1 .1 .1 .1 .1 .0) ∙ (c .before .before .before .before .before .before .before .before .before .before .before .before .before .before .before .before .before .before .before .before .array-turns .kept .1 .1 .1 .1 .1 .1 .0)) ∙ (c .before .before .before .before .before .before .before .before .before .before .before .before .before .before .before .before .before .before .before .before .before .before .before .loop) .inv .4
 
 on-array-open-returns-4 : (t : ℕ) → on-array-open-lts.Need-returns-4 (
-  emit-reads.Asked,
-  emit-reads.Learnt,
+  array-open-reads.Asked,
+  array-open-reads.Learnt,
   array-turns-reads.Asked,
   array-turns-reads.Learnt,
   on-array-open-below t,
@@ -503,11 +504,11 @@ on-array-open-returns-4 : (t : ℕ) → on-array-open-lts.Need-returns-4 (
   on-inline-table-open-below t,
   on-inline-table-open.Post,
 ) (on-array-open-at t) on-array-open.Post on-array-open-Inv-loop on-array-open-μ-loop
-on-array-open-returns-4 t c = nested-as (open-array ((c .before .before .before .before .before .before .before .before .before .before .before .before .before .before .before .before .before .before .before .before .before .before .before .before .before .before .before .before .before .before .before .before .before .args) .settings .levels) _ _ _ ((c .before .before .before .before .before .before .before .before .before .before .before .before .before .before .before .before .before .before .before .before .before .before .before .before .before .before .before .before .if1) .left)) (nested-item _ _ (λ all. (c .before .before .before .before .before .before .before .before .before .before .before .before .before .before .before .before .before .before .before .before .before .before .before .before .before .before .emit) .ensures all _) (stack-array-stop ((c .before .before .before .before .before .before .before .before .before .before .before .before .before .before .before .before .before .before .before .before .before .before .before .loop) .inv .0) _ ((c .before .before .before .before .before .before .before .before .before .before .before .before .before .before .before .before .before .before .before .before .array-turns) .ensures) _ ((c .before .before .before .before .before .before .before .before .before .before .before .x) .given .1) ((c .before .before .before .before .before .on-array-open) .ensures) ((c .if5) .taken)))
+on-array-open-returns-4 t c = nested-as (open-array ((c .before .before .before .before .before .before .before .before .before .before .before .before .before .before .before .before .before .before .before .before .before .before .before .before .before .before .before .before .before .before .before .before .before .args) .settings .levels) _ _ _ ((c .before .before .before .before .before .before .before .before .before .before .before .before .before .before .before .before .before .before .before .before .before .before .before .before .before .before .before .before .if1) .left)) (nested-item _ _ (λ all. (c .before .before .before .before .before .before .before .before .before .before .before .before .before .before .before .before .before .before .before .before .before .before .before .before .before .before .array-open) .ensures all _) (stack-array-stop ((c .before .before .before .before .before .before .before .before .before .before .before .before .before .before .before .before .before .before .before .before .before .before .before .loop) .inv .0) _ ((c .before .before .before .before .before .before .before .before .before .before .before .before .before .before .before .before .before .before .before .before .array-turns) .ensures) _ ((c .before .before .before .before .before .before .before .before .before .before .before .x) .given .1) ((c .before .before .before .before .before .on-array-open) .ensures) ((c .if5) .taken)))
 
 on-array-open-loop-less-4 : (t : ℕ) → on-array-open-lts.Need-loop-less-4 (
-  emit-reads.Asked,
-  emit-reads.Learnt,
+  array-open-reads.Asked,
+  array-open-reads.Learnt,
   array-turns-reads.Asked,
   array-turns-reads.Learnt,
   on-array-open-below t,
@@ -518,8 +519,8 @@ on-array-open-loop-less-4 : (t : ℕ) → on-array-open-lts.Need-loop-less-4 (
 on-array-open-loop-less-4 t c = omega (arith, stack-array-moved ((c .before .before .before .before .before .before .before .before .before .before .before .before .before .before .before .before .before .before .before .before .before .before .before .before .before .loop) .inv .0) _ ((c .before .before .before .before .before .before .before .before .before .before .before .before .before .before .before .before .before .before .before .before .before .before .array-turns) .ensures) _ ((c .before .before .before .before .before .before .before .before .before .before .before .before .before .x) .given .1), (c .before .before .before .before .before .before .before .on-array-open) .ensures .on, (c .before .before .before .before .before .before .before .on-array-open) .ensures .good .low)
 
 on-array-open-loop-again-4 : (t : ℕ) → on-array-open-lts.Need-loop-again-4 (
-  emit-reads.Asked,
-  emit-reads.Learnt,
+  array-open-reads.Asked,
+  array-open-reads.Learnt,
   array-turns-reads.Asked,
   array-turns-reads.Learnt,
   on-array-open-below t,
@@ -530,8 +531,8 @@ on-array-open-loop-again-4 : (t : ℕ) → on-array-open-lts.Need-loop-again-4 (
 on-array-open-loop-again-4 t c = (stack-array-again ((c .before .before .before .before .before .before .before .before .before .before .before .before .before .before .before .before .before .before .before .before .before .before .before .before .before .loop) .inv .0) _ ((c .before .before .before .before .before .before .before .before .before .before .before .before .before .before .before .before .before .before .before .before .before .before .array-turns) .ensures) _ ((c .before .before .before .before .before .before .before .before .before .before .before .before .before .x) .given .1) ((c .before .before .before .before .before .before .before .on-array-open) .ensures) ((c .before .before .if5) .left), (c .before .before .before .before .before .before .before .before .before .before .before .before .before .before .before .before .before .before .before .before .before .before .before .before .before .loop) .inv .1, (c .before .before .before .before .before .before .before .before .before .before .before .before .before .before .before .before .before .before .before .before .before .before .before .before .before .loop) .inv .2, ((c .before .before .before .before .before .before .before .on-array-open .kept .1 .1 .1 .1 .1 .0) ∙ (c .before .before .before .before .before .before .before .before .before .before .before .before .before .before .before .before .before .before .before .before .before .before .array-turns .kept .1 .1 .1 .1 .1 .0)) ∙ (c .before .before .before .before .before .before .before .before .before .before .before .before .before .before .before .before .before .before .before .before .before .before .before .before .before .loop) .inv .3, ((c .before .before .before .before .before .before .before .on-array-open .kept .1 .1 .1 .1 .1 .1 .0) ∙ (c .before .before .before .before .before .before .before .before .before .before .before .before .before .before .before .before .before .before .before .before .before .before .array-turns .kept .1 .1 .1 .1 .1 .1 .0)) ∙ (c .before .before .before .before .before .before .before .before .before .before .before .before .before .before .before .before .before .before .before .before .before .before .before .before .before .loop) .inv .4, omega (arith, (c .before .before .before .before .before .before .before .before .before .before .before .before .before .before .before .before .before .before .before .before .before .before .before .before .before .loop) .inv .5))
 
 on-array-open-enum-known-x-2 : (t : ℕ) → on-array-open-lts.Need-enum-known-x-2 (
-  emit-reads.Asked,
-  emit-reads.Learnt,
+  array-open-reads.Asked,
+  array-open-reads.Learnt,
   array-turns-reads.Asked,
   array-turns-reads.Learnt,
   on-array-open-below t,
@@ -542,8 +543,8 @@ on-array-open-enum-known-x-2 : (t : ℕ) → on-array-open-lts.Need-enum-known-x
 on-array-open-enum-known-x-2 t c = search needs
 
 on-array-open-on-inline-table-open-requires : (t : ℕ) → on-array-open-lts.Need-on-inline-table-open-requires (
-  emit-reads.Asked,
-  emit-reads.Learnt,
+  array-open-reads.Asked,
+  array-open-reads.Learnt,
   array-turns-reads.Asked,
   array-turns-reads.Learnt,
   on-array-open-below t,
@@ -554,8 +555,8 @@ on-array-open-on-inline-table-open-requires : (t : ℕ) → on-array-open-lts.Ne
 on-array-open-on-inline-table-open-requires t c κs = (omega (arith, ((c .before .before .before .before .before .before .before .before .before .before .before .before .before .before .before .loop) .inv .0) .sum, (c .before .before .before .before .before .before .before .before .before .before .before .before .before .before .before .before .before .before .before .before .before .before .before .before .before .pre) .0), (c .before .before .before .before .before .before .before .before .before .before .before .before .array-turns) .ensures .good)
 
 on-array-open-same-length-7 : (t : ℕ) → on-array-open-lts.Need-same-length-7 (
-  emit-reads.Asked,
-  emit-reads.Learnt,
+  array-open-reads.Asked,
+  array-open-reads.Learnt,
   array-turns-reads.Asked,
   array-turns-reads.Learnt,
   on-array-open-below t,
@@ -563,11 +564,11 @@ on-array-open-same-length-7 : (t : ℕ) → on-array-open-lts.Need-same-length-7
   on-inline-table-open-below t,
   on-inline-table-open.Post,
 ) (on-array-open-at t) on-array-open.Post on-array-open-Inv-loop on-array-open-μ-loop
-on-array-open-same-length-7 t c = ((c .before .before .before .before .before .on-inline-table-open .kept .1 .1 .1 .1 .1 .0) ∙ (c .before .before .before .before .before .before .before .before .before .before .before .before .before .before .before .before .before .before .array-turns .kept .1 .1 .1 .1 .1 .0)) ∙ (c .before .before .before .before .before .before .before .before .before .before .before .before .before .before .before .before .before .before .before .before .before .loop) .inv .3 ∙ (c .before .before .before .before .before .before .before .before .before .before .before .before .before .before .before .before .before .before .before .before .before .before .before .before .emit) .kept .0
+on-array-open-same-length-7 t c = ((c .before .before .before .before .before .on-inline-table-open .kept .1 .1 .1 .1 .1 .0) ∙ (c .before .before .before .before .before .before .before .before .before .before .before .before .before .before .before .before .before .before .array-turns .kept .1 .1 .1 .1 .1 .0)) ∙ (c .before .before .before .before .before .before .before .before .before .before .before .before .before .before .before .before .before .before .before .before .before .loop) .inv .3 ∙ (c .before .before .before .before .before .before .before .before .before .before .before .before .before .before .before .before .before .before .before .before .before .before .before .before .array-open) .kept .0
 
 on-array-open-same-length-8 : (t : ℕ) → on-array-open-lts.Need-same-length-8 (
-  emit-reads.Asked,
-  emit-reads.Learnt,
+  array-open-reads.Asked,
+  array-open-reads.Learnt,
   array-turns-reads.Asked,
   array-turns-reads.Learnt,
   on-array-open-below t,
@@ -578,8 +579,8 @@ on-array-open-same-length-8 : (t : ℕ) → on-array-open-lts.Need-same-length-8
 on-array-open-same-length-8 t c = ((c .before .before .before .before .before .on-inline-table-open .kept .1 .1 .1 .1 .1 .1 .0) ∙ (c .before .before .before .before .before .before .before .before .before .before .before .before .before .before .before .before .before .before .array-turns .kept .1 .1 .1 .1 .1 .1 .0)) ∙ (c .before .before .before .before .before .before .before .before .before .before .before .before .before .before .before .before .before .before .before .before .before .loop) .inv .4
 
 on-array-open-returns-5 : (t : ℕ) → on-array-open-lts.Need-returns-5 (
-  emit-reads.Asked,
-  emit-reads.Learnt,
+  array-open-reads.Asked,
+  array-open-reads.Learnt,
   array-turns-reads.Asked,
   array-turns-reads.Learnt,
   on-array-open-below t,
@@ -587,11 +588,11 @@ on-array-open-returns-5 : (t : ℕ) → on-array-open-lts.Need-returns-5 (
   on-inline-table-open-below t,
   on-inline-table-open.Post,
 ) (on-array-open-at t) on-array-open.Post on-array-open-Inv-loop on-array-open-μ-loop
-on-array-open-returns-5 t c = nested-as (open-array ((c .before .before .before .before .before .before .before .before .before .before .before .before .before .before .before .before .before .before .before .before .before .before .before .before .before .before .before .before .before .before .before .args) .settings .levels) _ _ _ ((c .before .before .before .before .before .before .before .before .before .before .before .before .before .before .before .before .before .before .before .before .before .before .before .before .before .before .if1) .left)) (nested-item _ _ (λ all. (c .before .before .before .before .before .before .before .before .before .before .before .before .before .before .before .before .before .before .before .before .before .before .before .before .emit) .ensures all _) (stack-table-stop ((c .before .before .before .before .before .before .before .before .before .before .before .before .before .before .before .before .before .before .before .before .before .loop) .inv .0) _ ((c .before .before .before .before .before .before .before .before .before .before .before .before .before .before .before .before .before .before .array-turns) .ensures) _ ((c .before .before .before .before .before .before .before .before .before .x2) .given .1) ((c .before .before .before .before .before .on-inline-table-open) .ensures) ((c .if6) .taken)))
+on-array-open-returns-5 t c = nested-as (open-array ((c .before .before .before .before .before .before .before .before .before .before .before .before .before .before .before .before .before .before .before .before .before .before .before .before .before .before .before .before .before .before .before .args) .settings .levels) _ _ _ ((c .before .before .before .before .before .before .before .before .before .before .before .before .before .before .before .before .before .before .before .before .before .before .before .before .before .before .if1) .left)) (nested-item _ _ (λ all. (c .before .before .before .before .before .before .before .before .before .before .before .before .before .before .before .before .before .before .before .before .before .before .before .before .array-open) .ensures all _) (stack-table-stop ((c .before .before .before .before .before .before .before .before .before .before .before .before .before .before .before .before .before .before .before .before .before .loop) .inv .0) _ ((c .before .before .before .before .before .before .before .before .before .before .before .before .before .before .before .before .before .before .array-turns) .ensures) _ ((c .before .before .before .before .before .before .before .before .before .x2) .given .1) ((c .before .before .before .before .before .on-inline-table-open) .ensures) ((c .if6) .taken)))
 
 on-array-open-loop-less-5 : (t : ℕ) → on-array-open-lts.Need-loop-less-5 (
-  emit-reads.Asked,
-  emit-reads.Learnt,
+  array-open-reads.Asked,
+  array-open-reads.Learnt,
   array-turns-reads.Asked,
   array-turns-reads.Learnt,
   on-array-open-below t,
@@ -602,8 +603,8 @@ on-array-open-loop-less-5 : (t : ℕ) → on-array-open-lts.Need-loop-less-5 (
 on-array-open-loop-less-5 t c = omega (arith, stack-table-moved ((c .before .before .before .before .before .before .before .before .before .before .before .before .before .before .before .before .before .before .before .before .before .before .before .loop) .inv .0) _ ((c .before .before .before .before .before .before .before .before .before .before .before .before .before .before .before .before .before .before .before .before .array-turns) .ensures) _ ((c .before .before .before .before .before .before .before .before .before .before .before .x2) .given .1), (c .before .before .before .before .before .before .before .on-inline-table-open) .ensures .on, (c .before .before .before .before .before .before .before .on-inline-table-open) .ensures .good .low)
 
 on-array-open-loop-again-5 : (t : ℕ) → on-array-open-lts.Need-loop-again-5 (
-  emit-reads.Asked,
-  emit-reads.Learnt,
+  array-open-reads.Asked,
+  array-open-reads.Learnt,
   array-turns-reads.Asked,
   array-turns-reads.Learnt,
   on-array-open-below t,
@@ -622,8 +623,8 @@ abbrev on-inline-table-open-μ-loop : on-inline-table-open-lts.MeasureT-loop
 on-inline-table-open-μ-loop s head events₀ errors₀ levels n₀ cur₀ p₀ actions opened inside events errors n cur p = count s - cur .at
 
 on-inline-table-open-returns : (t : ℕ) → on-inline-table-open-lts.Need-returns (
-  emit-reads.Asked,
-  emit-reads.Learnt,
+  table-open-reads.Asked,
+  table-open-reads.Learnt,
   action-table-reads.Asked,
   action-table-reads.Learnt,
   inline-table-turn-reads.Asked,
@@ -635,9 +636,9 @@ on-inline-table-open-returns : (t : ℕ) → on-inline-table-open-lts.Need-retur
 ) (on-inline-table-open-at t) on-inline-table-open.Post on-inline-table-open-Inv-loop on-inline-table-open-μ-loop
 on-inline-table-open-returns t c = no-level ((c .before .before .before .before .before .args) .settings .levels) Bracket.Curly _ _ _ _ _ _ ((c .if1) .taken) ((c .before .before .before .before .before .pre) .1)
 
-on-inline-table-open-emit-requires : (t : ℕ) → on-inline-table-open-lts.Need-emit-requires (
-  emit-reads.Asked,
-  emit-reads.Learnt,
+on-inline-table-open-table-open-requires : (t : ℕ) → on-inline-table-open-lts.Need-table-open-requires (
+  table-open-reads.Asked,
+  table-open-reads.Learnt,
   action-table-reads.Asked,
   action-table-reads.Learnt,
   inline-table-turn-reads.Asked,
@@ -647,11 +648,11 @@ on-inline-table-open-emit-requires : (t : ℕ) → on-inline-table-open-lts.Need
   on-inline-table-open-below t,
   on-inline-table-open.Post,
 ) (on-inline-table-open-at t) on-inline-table-open.Post on-inline-table-open-Inv-loop on-inline-table-open-μ-loop
-on-inline-table-open-emit-requires t c κs = search needs
+on-inline-table-open-table-open-requires t c κs = search needs
 
 on-inline-table-open-action-table-requires : (t : ℕ) → on-inline-table-open-lts.Need-action-table-requires (
-  emit-reads.Asked,
-  emit-reads.Learnt,
+  table-open-reads.Asked,
+  table-open-reads.Learnt,
   action-table-reads.Asked,
   action-table-reads.Learnt,
   inline-table-turn-reads.Asked,
@@ -663,9 +664,9 @@ on-inline-table-open-action-table-requires : (t : ℕ) → on-inline-table-open-
 ) (on-inline-table-open-at t) on-inline-table-open.Post on-inline-table-open-Inv-loop on-inline-table-open-μ-loop
 on-inline-table-open-action-table-requires t c κs = search needs
 
-on-inline-table-open-sub-t37 : (t : ℕ) → on-inline-table-open-lts.Need-sub-t37 (
-  emit-reads.Asked,
-  emit-reads.Learnt,
+on-inline-table-open-sub-t36 : (t : ℕ) → on-inline-table-open-lts.Need-sub-t36 (
+  table-open-reads.Asked,
+  table-open-reads.Learnt,
   action-table-reads.Asked,
   action-table-reads.Learnt,
   inline-table-turn-reads.Asked,
@@ -675,11 +676,11 @@ on-inline-table-open-sub-t37 : (t : ℕ) → on-inline-table-open-lts.Need-sub-t
   on-inline-table-open-below t,
   on-inline-table-open.Post,
 ) (on-inline-table-open-at t) on-inline-table-open.Post on-inline-table-open-Inv-loop on-inline-table-open-μ-loop
-on-inline-table-open-sub-t37 t c = omega (arith, (c .before .before .before .before .before .if1) .left)
+on-inline-table-open-sub-t36 t c = omega (arith, (c .before .before .before .before .before .if1) .left)
 
 on-inline-table-open-loop-holds : (t : ℕ) → on-inline-table-open-lts.Need-loop-holds (
-  emit-reads.Asked,
-  emit-reads.Learnt,
+  table-open-reads.Asked,
+  table-open-reads.Learnt,
   action-table-reads.Asked,
   action-table-reads.Learnt,
   inline-table-turn-reads.Asked,
@@ -692,8 +693,8 @@ on-inline-table-open-loop-holds : (t : ℕ) → on-inline-table-open-lts.Need-lo
 on-inline-table-open-loop-holds t c = (turns-begun _ _ _ _ ((c .before .before .before .before .before .before .before .before .before .before .pre) .1), refl, refl, (c .action-table) .ensures)
 
 on-inline-table-open-inline-table-turn-requires : (t : ℕ) → on-inline-table-open-lts.Need-inline-table-turn-requires (
-  emit-reads.Asked,
-  emit-reads.Learnt,
+  table-open-reads.Asked,
+  table-open-reads.Learnt,
   action-table-reads.Asked,
   action-table-reads.Learnt,
   inline-table-turn-reads.Asked,
@@ -706,8 +707,8 @@ on-inline-table-open-inline-table-turn-requires : (t : ℕ) → on-inline-table-
 on-inline-table-open-inline-table-turn-requires t c κs = (((c .before .before .before .loop) .inv .0) .good, (c .before .before .before .loop) .inv .3, (c .before .before .before .before .before .before .before .before .before .before .before .before .before .before .pre) .1 .low)
 
 on-inline-table-open-enum-told : (t : ℕ) → on-inline-table-open-lts.Need-enum-told (
-  emit-reads.Asked,
-  emit-reads.Learnt,
+  table-open-reads.Asked,
+  table-open-reads.Learnt,
   action-table-reads.Asked,
   action-table-reads.Learnt,
   inline-table-turn-reads.Asked,
@@ -720,8 +721,8 @@ on-inline-table-open-enum-told : (t : ℕ) → on-inline-table-open-lts.Need-enu
 on-inline-table-open-enum-told t c = search needs
 
 on-inline-table-open-loop-less : (t : ℕ) → on-inline-table-open-lts.Need-loop-less (
-  emit-reads.Asked,
-  emit-reads.Learnt,
+  table-open-reads.Asked,
+  table-open-reads.Learnt,
   action-table-reads.Asked,
   action-table-reads.Learnt,
   inline-table-turn-reads.Asked,
@@ -734,8 +735,8 @@ on-inline-table-open-loop-less : (t : ℕ) → on-inline-table-open-lts.Need-loo
 on-inline-table-open-loop-less t c = omega (arith, turn-moved (onOpen ((c .before .before .before .before .before .before .before .before .before .before .before .before .before .before .before .before .before .before .before .before .before .before .before .before .before .args) .settings .levels - 1)) (λ nest. inlineTableTurn (span ((c .before .before .before .before .before .before .before .before .before .before .before .before .before .before .before .before .before .before .before .before .before .before .before .before .before .args) .head .start) ((c .before .before .before .before .before .before .before .before .before .before .before .before .before .before .before .before .before .before .before .before .before .before .before .before .before .args) .head .end)) (count ((c .before .before .before .before .before .before .before .before .before .before .before .before .before .before .before .before .before .before .before .before .before .before .before .before .before .args) .s .now) - (c .before .before .before .before .before .before .before .before .before .before .before .before .before .before .before .before .before .before .before .before .before .before .before .before .before .args) .c .at) nest) (λ f g w. refl) ((c .before .before .before .before .before .before .before .before .before .before .before .before .before .before .loop) .p) ((c .before .before .before .before .before .before .before .before .before .before .before .before .before .before .loop) .inv .0) ((c .before .before .before .before .before .before .before .before .before .before .inline-table-turn) .result .progress) ((c .before .before .before .before .before .before .before .before .before .before .inline-table-turn) .ensures) ((c .enum-told) .given .1), (c .before .before .before .before .before .before .before .before .before .before .inline-table-turn) .ensures .good .low)
 
 on-inline-table-open-loop-again : (t : ℕ) → on-inline-table-open-lts.Need-loop-again (
-  emit-reads.Asked,
-  emit-reads.Learnt,
+  table-open-reads.Asked,
+  table-open-reads.Learnt,
   action-table-reads.Asked,
   action-table-reads.Learnt,
   inline-table-turn-reads.Asked,
@@ -748,8 +749,8 @@ on-inline-table-open-loop-again : (t : ℕ) → on-inline-table-open-lts.Need-lo
 on-inline-table-open-loop-again t c = (turn-next (onOpen ((c .before .before .before .before .before .before .before .before .before .before .before .before .before .before .before .before .before .before .before .before .before .before .before .before .before .args) .settings .levels - 1)) (λ nest. inlineTableTurn (span ((c .before .before .before .before .before .before .before .before .before .before .before .before .before .before .before .before .before .before .before .before .before .before .before .before .before .args) .head .start) ((c .before .before .before .before .before .before .before .before .before .before .before .before .before .before .before .before .before .before .before .before .before .before .before .before .before .args) .head .end)) (count ((c .before .before .before .before .before .before .before .before .before .before .before .before .before .before .before .before .before .before .before .before .before .before .before .before .before .args) .s .now) - (c .before .before .before .before .before .before .before .before .before .before .before .before .before .before .before .before .before .before .before .before .before .before .before .before .before .args) .c .at) nest) (λ f g w. refl) ((c .before .before .before .before .before .before .before .before .before .before .before .before .before .before .loop) .p) ((c .before .before .before .before .before .before .before .before .before .before .before .before .before .before .loop) .inv .0) ((c .before .before .before .before .before .before .before .before .before .before .inline-table-turn) .result .progress) ((c .before .before .before .before .before .before .before .before .before .before .inline-table-turn) .ensures) ((c .enum-told) .given .1), ((c .before .before .before .before .before .before .before .before .before .before .inline-table-turn .kept .1 .1 .1 .1 .1 .1 .1 .0)) ∙ (c .before .before .before .before .before .before .before .before .before .before .before .before .before .before .loop) .inv .1, ((c .before .before .before .before .before .before .before .before .before .before .inline-table-turn .kept .1 .1 .1 .1 .1 .1 .1 .1 .0)) ∙ (c .before .before .before .before .before .before .before .before .before .before .before .before .before .before .loop) .inv .2, (c .before .before .before .before .before .before .before .before .before .before .before .before .before .before .loop) .inv .3)
 
 on-inline-table-open-enum-told-2 : (t : ℕ) → on-inline-table-open-lts.Need-enum-told-2 (
-  emit-reads.Asked,
-  emit-reads.Learnt,
+  table-open-reads.Asked,
+  table-open-reads.Learnt,
   action-table-reads.Asked,
   action-table-reads.Learnt,
   inline-table-turn-reads.Asked,
@@ -762,8 +763,8 @@ on-inline-table-open-enum-told-2 : (t : ℕ) → on-inline-table-open-lts.Need-e
 on-inline-table-open-enum-told-2 t c = search needs
 
 on-inline-table-open-same-length : (t : ℕ) → on-inline-table-open-lts.Need-same-length (
-  emit-reads.Asked,
-  emit-reads.Learnt,
+  table-open-reads.Asked,
+  table-open-reads.Learnt,
   action-table-reads.Asked,
   action-table-reads.Learnt,
   inline-table-turn-reads.Asked,
@@ -773,11 +774,11 @@ on-inline-table-open-same-length : (t : ℕ) → on-inline-table-open-lts.Need-s
   on-inline-table-open-below t,
   on-inline-table-open.Post,
 ) (on-inline-table-open-at t) on-inline-table-open.Post on-inline-table-open-Inv-loop on-inline-table-open-μ-loop
-on-inline-table-open-same-length t c = ((c .before .before .before .before .before .before .before .before .before .before .inline-table-turn .kept .1 .1 .1 .1 .1 .1 .1 .0)) ∙ (c .before .before .before .before .before .before .before .before .before .before .before .before .before .before .loop) .inv .1 ∙ (c .before .before .before .before .before .before .before .before .before .before .before .before .before .before .before .before .before .before .emit) .kept .0
+on-inline-table-open-same-length t c = ((c .before .before .before .before .before .before .before .before .before .before .inline-table-turn .kept .1 .1 .1 .1 .1 .1 .1 .0)) ∙ (c .before .before .before .before .before .before .before .before .before .before .before .before .before .before .loop) .inv .1 ∙ (c .before .before .before .before .before .before .before .before .before .before .before .before .before .before .before .before .before .before .table-open) .kept .0
 
 on-inline-table-open-same-length-2 : (t : ℕ) → on-inline-table-open-lts.Need-same-length-2 (
-  emit-reads.Asked,
-  emit-reads.Learnt,
+  table-open-reads.Asked,
+  table-open-reads.Learnt,
   action-table-reads.Asked,
   action-table-reads.Learnt,
   inline-table-turn-reads.Asked,
@@ -790,8 +791,8 @@ on-inline-table-open-same-length-2 : (t : ℕ) → on-inline-table-open-lts.Need
 on-inline-table-open-same-length-2 t c = ((c .before .before .before .before .before .before .before .before .before .before .inline-table-turn .kept .1 .1 .1 .1 .1 .1 .1 .1 .0)) ∙ (c .before .before .before .before .before .before .before .before .before .before .before .before .before .before .loop) .inv .2
 
 on-inline-table-open-returns-2 : (t : ℕ) → on-inline-table-open-lts.Need-returns-2 (
-  emit-reads.Asked,
-  emit-reads.Learnt,
+  table-open-reads.Asked,
+  table-open-reads.Learnt,
   action-table-reads.Asked,
   action-table-reads.Learnt,
   inline-table-turn-reads.Asked,
@@ -801,11 +802,11 @@ on-inline-table-open-returns-2 : (t : ℕ) → on-inline-table-open-lts.Need-ret
   on-inline-table-open-below t,
   on-inline-table-open.Post,
 ) (on-inline-table-open-at t) on-inline-table-open.Post on-inline-table-open-Inv-loop on-inline-table-open-μ-loop
-on-inline-table-open-returns-2 t c = nested-as (open-table _ _ ((c .before .before .before .before .before .before .before .before .before .before .before .before .before .before .before .before .before .before .before .before .before .before .before .before .before .args) .settings .levels) _ _ ((c .before .before .before .before .before .before .before .before .before .before .before .before .before .before .before .before .before .before .before .before .if1) .left)) (nested-item _ _ (λ all. (c .before .before .before .before .before .before .before .before .before .before .before .before .before .before .before .before .before .before .emit) .ensures all _) (turn-over (onOpen ((c .before .before .before .before .before .before .before .before .before .before .before .before .before .before .before .before .before .before .before .before .before .before .before .before .before .args) .settings .levels - 1)) (λ nest. inlineTableTurn (span ((c .before .before .before .before .before .before .before .before .before .before .before .before .before .before .before .before .before .before .before .before .before .before .before .before .before .args) .head .start) ((c .before .before .before .before .before .before .before .before .before .before .before .before .before .before .before .before .before .before .before .before .before .before .before .before .before .args) .head .end)) (count ((c .before .before .before .before .before .before .before .before .before .before .before .before .before .before .before .before .before .before .before .before .before .before .before .before .before .args) .s .now) - (c .before .before .before .before .before .before .before .before .before .before .before .before .before .before .before .before .before .before .before .before .before .before .before .before .before .args) .c .at) nest) (λ f g w. refl) ((c .before .before .before .before .before .before .before .before .before .before .before .before .before .before .loop) .p) ((c .before .before .before .before .before .before .before .before .before .before .before .before .before .before .loop) .inv .0) ((c .before .before .before .before .before .before .before .before .before .before .inline-table-turn) .result .progress) ((c .before .before .before .before .before .before .before .before .before .before .inline-table-turn) .ensures) ((c .enum-told2) .given .1)))
+on-inline-table-open-returns-2 t c = nested-as (open-table _ _ ((c .before .before .before .before .before .before .before .before .before .before .before .before .before .before .before .before .before .before .before .before .before .before .before .before .before .args) .settings .levels) _ _ ((c .before .before .before .before .before .before .before .before .before .before .before .before .before .before .before .before .before .before .before .before .if1) .left)) (nested-item _ _ (λ all. (c .before .before .before .before .before .before .before .before .before .before .before .before .before .before .before .before .before .before .table-open) .ensures all _) (turn-over (onOpen ((c .before .before .before .before .before .before .before .before .before .before .before .before .before .before .before .before .before .before .before .before .before .before .before .before .before .args) .settings .levels - 1)) (λ nest. inlineTableTurn (span ((c .before .before .before .before .before .before .before .before .before .before .before .before .before .before .before .before .before .before .before .before .before .before .before .before .before .args) .head .start) ((c .before .before .before .before .before .before .before .before .before .before .before .before .before .before .before .before .before .before .before .before .before .before .before .before .before .args) .head .end)) (count ((c .before .before .before .before .before .before .before .before .before .before .before .before .before .before .before .before .before .before .before .before .before .before .before .before .before .args) .s .now) - (c .before .before .before .before .before .before .before .before .before .before .before .before .before .before .before .before .before .before .before .before .before .before .before .before .before .args) .c .at) nest) (λ f g w. refl) ((c .before .before .before .before .before .before .before .before .before .before .before .before .before .before .loop) .p) ((c .before .before .before .before .before .before .before .before .before .before .before .before .before .before .loop) .inv .0) ((c .before .before .before .before .before .before .before .before .before .before .inline-table-turn) .result .progress) ((c .before .before .before .before .before .before .before .before .before .before .inline-table-turn) .ensures) ((c .enum-told2) .given .1)))
 
 on-inline-table-open-enum-known-x : (t : ℕ) → on-inline-table-open-lts.Need-enum-known-x (
-  emit-reads.Asked,
-  emit-reads.Learnt,
+  table-open-reads.Asked,
+  table-open-reads.Learnt,
   action-table-reads.Asked,
   action-table-reads.Learnt,
   inline-table-turn-reads.Asked,
@@ -818,8 +819,8 @@ on-inline-table-open-enum-known-x : (t : ℕ) → on-inline-table-open-lts.Need-
 on-inline-table-open-enum-known-x t c = search needs
 
 on-inline-table-open-on-array-open-requires : (t : ℕ) → on-inline-table-open-lts.Need-on-array-open-requires (
-  emit-reads.Asked,
-  emit-reads.Learnt,
+  table-open-reads.Asked,
+  table-open-reads.Learnt,
   action-table-reads.Asked,
   action-table-reads.Learnt,
   inline-table-turn-reads.Asked,
@@ -832,8 +833,8 @@ on-inline-table-open-on-array-open-requires : (t : ℕ) → on-inline-table-open
 on-inline-table-open-on-array-open-requires t c κs = (omega (arith, (c .before .before .before .before .before .before .before .before .before .before .before .before .before .before .before .before .before .before .before .before .before .before .before .if1) .left, (c .before .before .before .before .before .before .before .before .before .before .before .before .before .before .before .before .before .before .before .before .before .before .before .before .before .before .before .before .pre) .0), (c .before .before .before .before .before .before .before .before .before .before .before .before .before .inline-table-turn) .ensures .good)
 
 on-inline-table-open-same-length-3 : (t : ℕ) → on-inline-table-open-lts.Need-same-length-3 (
-  emit-reads.Asked,
-  emit-reads.Learnt,
+  table-open-reads.Asked,
+  table-open-reads.Learnt,
   action-table-reads.Asked,
   action-table-reads.Learnt,
   inline-table-turn-reads.Asked,
@@ -843,11 +844,11 @@ on-inline-table-open-same-length-3 : (t : ℕ) → on-inline-table-open-lts.Need
   on-inline-table-open-below t,
   on-inline-table-open.Post,
 ) (on-inline-table-open-at t) on-inline-table-open.Post on-inline-table-open-Inv-loop on-inline-table-open-μ-loop
-on-inline-table-open-same-length-3 t c = ((c .before .before .before .before .before .on-array-open .kept .1 .1 .1 .1 .1 .0) ∙ (c .before .before .before .before .before .before .before .before .before .before .before .before .before .before .before .before .before .before .before .inline-table-turn .kept .1 .1 .1 .1 .1 .1 .1 .0)) ∙ (c .before .before .before .before .before .before .before .before .before .before .before .before .before .before .before .before .before .before .before .before .before .before .before .loop) .inv .1 ∙ (c .before .before .before .before .before .before .before .before .before .before .before .before .before .before .before .before .before .before .before .before .before .before .before .before .before .before .before .emit) .kept .0
+on-inline-table-open-same-length-3 t c = ((c .before .before .before .before .before .on-array-open .kept .1 .1 .1 .1 .1 .0) ∙ (c .before .before .before .before .before .before .before .before .before .before .before .before .before .before .before .before .before .before .before .inline-table-turn .kept .1 .1 .1 .1 .1 .1 .1 .0)) ∙ (c .before .before .before .before .before .before .before .before .before .before .before .before .before .before .before .before .before .before .before .before .before .before .before .loop) .inv .1 ∙ (c .before .before .before .before .before .before .before .before .before .before .before .before .before .before .before .before .before .before .before .before .before .before .before .before .before .before .before .table-open) .kept .0
 
 on-inline-table-open-same-length-4 : (t : ℕ) → on-inline-table-open-lts.Need-same-length-4 (
-  emit-reads.Asked,
-  emit-reads.Learnt,
+  table-open-reads.Asked,
+  table-open-reads.Learnt,
   action-table-reads.Asked,
   action-table-reads.Learnt,
   inline-table-turn-reads.Asked,
@@ -860,8 +861,8 @@ on-inline-table-open-same-length-4 : (t : ℕ) → on-inline-table-open-lts.Need
 on-inline-table-open-same-length-4 t c = ((c .before .before .before .before .before .on-array-open .kept .1 .1 .1 .1 .1 .1 .0) ∙ (c .before .before .before .before .before .before .before .before .before .before .before .before .before .before .before .before .before .before .before .inline-table-turn .kept .1 .1 .1 .1 .1 .1 .1 .1 .0)) ∙ (c .before .before .before .before .before .before .before .before .before .before .before .before .before .before .before .before .before .before .before .before .before .before .before .loop) .inv .2
 
 on-inline-table-open-returns-3 : (t : ℕ) → on-inline-table-open-lts.Need-returns-3 (
-  emit-reads.Asked,
-  emit-reads.Learnt,
+  table-open-reads.Asked,
+  table-open-reads.Learnt,
   action-table-reads.Asked,
   action-table-reads.Learnt,
   inline-table-turn-reads.Asked,
@@ -871,11 +872,11 @@ on-inline-table-open-returns-3 : (t : ℕ) → on-inline-table-open-lts.Need-ret
   on-inline-table-open-below t,
   on-inline-table-open.Post,
 ) (on-inline-table-open-at t) on-inline-table-open.Post on-inline-table-open-Inv-loop on-inline-table-open-μ-loop
-on-inline-table-open-returns-3 t c = nested-as (open-table _ _ ((c .before .before .before .before .before .before .before .before .before .before .before .before .before .before .before .before .before .before .before .before .before .before .before .before .before .before .before .before .before .before .before .before .before .before .args) .settings .levels) _ _ ((c .before .before .before .before .before .before .before .before .before .before .before .before .before .before .before .before .before .before .before .before .before .before .before .before .before .before .before .before .before .if1) .left)) (nested-item _ _ (λ all. (c .before .before .before .before .before .before .before .before .before .before .before .before .before .before .before .before .before .before .before .before .before .before .before .before .before .before .before .emit) .ensures all _) (array-stop (onOpen ((c .before .before .before .before .before .before .before .before .before .before .before .before .before .before .before .before .before .before .before .before .before .before .before .before .before .before .before .before .before .before .before .before .before .before .args) .settings .levels - 1)) (λ nest. inlineTableTurn (span ((c .before .before .before .before .before .before .before .before .before .before .before .before .before .before .before .before .before .before .before .before .before .before .before .before .before .before .before .before .before .before .before .before .before .before .args) .head .start) ((c .before .before .before .before .before .before .before .before .before .before .before .before .before .before .before .before .before .before .before .before .before .before .before .before .before .before .before .before .before .before .before .before .before .before .args) .head .end)) (count ((c .before .before .before .before .before .before .before .before .before .before .before .before .before .before .before .before .before .before .before .before .before .before .before .before .before .before .before .before .before .before .before .before .before .before .args) .s .now) - (c .before .before .before .before .before .before .before .before .before .before .before .before .before .before .before .before .before .before .before .before .before .before .before .before .before .before .before .before .before .before .before .before .before .before .args) .c .at) nest) (λ f g w. refl) ((c .before .before .before .before .before .before .before .before .before .before .before .before .before .before .before .before .before .before .before .before .before .before .before .loop) .p) ((c .before .before .before .before .before .before .before .before .before .before .before .before .before .before .before .before .before .before .before .before .before .before .before .loop) .inv .0) ((c .before .before .before .before .before .before .before .before .before .before .before .before .before .before .before .before .before .before .before .inline-table-turn) .result .progress) ((c .before .before .before .before .before .before .before .before .before .before .before .before .before .before .before .before .before .before .before .inline-table-turn) .ensures) _ ((c .before .before .before .before .before .before .before .before .before .x) .given .1) ((c .before .before .before .before .before .on-array-open) .ensures) ((c .if2) .taken)))
+on-inline-table-open-returns-3 t c = nested-as (open-table _ _ ((c .before .before .before .before .before .before .before .before .before .before .before .before .before .before .before .before .before .before .before .before .before .before .before .before .before .before .before .before .before .before .before .before .before .before .args) .settings .levels) _ _ ((c .before .before .before .before .before .before .before .before .before .before .before .before .before .before .before .before .before .before .before .before .before .before .before .before .before .before .before .before .before .if1) .left)) (nested-item _ _ (λ all. (c .before .before .before .before .before .before .before .before .before .before .before .before .before .before .before .before .before .before .before .before .before .before .before .before .before .before .before .table-open) .ensures all _) (array-stop (onOpen ((c .before .before .before .before .before .before .before .before .before .before .before .before .before .before .before .before .before .before .before .before .before .before .before .before .before .before .before .before .before .before .before .before .before .before .args) .settings .levels - 1)) (λ nest. inlineTableTurn (span ((c .before .before .before .before .before .before .before .before .before .before .before .before .before .before .before .before .before .before .before .before .before .before .before .before .before .before .before .before .before .before .before .before .before .before .args) .head .start) ((c .before .before .before .before .before .before .before .before .before .before .before .before .before .before .before .before .before .before .before .before .before .before .before .before .before .before .before .before .before .before .before .before .before .before .args) .head .end)) (count ((c .before .before .before .before .before .before .before .before .before .before .before .before .before .before .before .before .before .before .before .before .before .before .before .before .before .before .before .before .before .before .before .before .before .before .args) .s .now) - (c .before .before .before .before .before .before .before .before .before .before .before .before .before .before .before .before .before .before .before .before .before .before .before .before .before .before .before .before .before .before .before .before .before .before .args) .c .at) nest) (λ f g w. refl) ((c .before .before .before .before .before .before .before .before .before .before .before .before .before .before .before .before .before .before .before .before .before .before .before .loop) .p) ((c .before .before .before .before .before .before .before .before .before .before .before .before .before .before .before .before .before .before .before .before .before .before .before .loop) .inv .0) ((c .before .before .before .before .before .before .before .before .before .before .before .before .before .before .before .before .before .before .before .inline-table-turn) .result .progress) ((c .before .before .before .before .before .before .before .before .before .before .before .before .before .before .before .before .before .before .before .inline-table-turn) .ensures) _ ((c .before .before .before .before .before .before .before .before .before .x) .given .1) ((c .before .before .before .before .before .on-array-open) .ensures) ((c .if2) .taken)))
 
 on-inline-table-open-loop-less-2 : (t : ℕ) → on-inline-table-open-lts.Need-loop-less-2 (
-  emit-reads.Asked,
-  emit-reads.Learnt,
+  table-open-reads.Asked,
+  table-open-reads.Learnt,
   action-table-reads.Asked,
   action-table-reads.Learnt,
   inline-table-turn-reads.Asked,
@@ -888,8 +889,8 @@ on-inline-table-open-loop-less-2 : (t : ℕ) → on-inline-table-open-lts.Need-l
 on-inline-table-open-loop-less-2 t c = omega (arith, array-moved (onOpen ((c .before .before .before .before .before .before .before .before .before .before .before .before .before .before .before .before .before .before .before .before .before .before .before .before .before .before .before .before .before .before .before .before .before .before .before .before .args) .settings .levels - 1)) (λ nest. inlineTableTurn (span ((c .before .before .before .before .before .before .before .before .before .before .before .before .before .before .before .before .before .before .before .before .before .before .before .before .before .before .before .before .before .before .before .before .before .before .before .before .args) .head .start) ((c .before .before .before .before .before .before .before .before .before .before .before .before .before .before .before .before .before .before .before .before .before .before .before .before .before .before .before .before .before .before .before .before .before .before .before .before .args) .head .end)) (count ((c .before .before .before .before .before .before .before .before .before .before .before .before .before .before .before .before .before .before .before .before .before .before .before .before .before .before .before .before .before .before .before .before .before .before .before .before .args) .s .now) - (c .before .before .before .before .before .before .before .before .before .before .before .before .before .before .before .before .before .before .before .before .before .before .before .before .before .before .before .before .before .before .before .before .before .before .before .before .args) .c .at) nest) (λ f g w. refl) ((c .before .before .before .before .before .before .before .before .before .before .before .before .before .before .before .before .before .before .before .before .before .before .before .before .before .loop) .p) ((c .before .before .before .before .before .before .before .before .before .before .before .before .before .before .before .before .before .before .before .before .before .before .before .before .before .loop) .inv .0) ((c .before .before .before .before .before .before .before .before .before .before .before .before .before .before .before .before .before .before .before .before .before .inline-table-turn) .result .progress) ((c .before .before .before .before .before .before .before .before .before .before .before .before .before .before .before .before .before .before .before .before .before .inline-table-turn) .ensures) _ ((c .before .before .before .before .before .before .before .before .before .before .before .x) .given .1), (c .before .before .before .before .before .before .before .on-array-open) .ensures .on, (c .before .before .before .before .before .before .before .on-array-open) .ensures .good .low)
 
 on-inline-table-open-loop-again-2 : (t : ℕ) → on-inline-table-open-lts.Need-loop-again-2 (
-  emit-reads.Asked,
-  emit-reads.Learnt,
+  table-open-reads.Asked,
+  table-open-reads.Learnt,
   action-table-reads.Asked,
   action-table-reads.Learnt,
   inline-table-turn-reads.Asked,
@@ -902,8 +903,8 @@ on-inline-table-open-loop-again-2 : (t : ℕ) → on-inline-table-open-lts.Need-
 on-inline-table-open-loop-again-2 t c = (array-again (onOpen ((c .before .before .before .before .before .before .before .before .before .before .before .before .before .before .before .before .before .before .before .before .before .before .before .before .before .before .before .before .before .before .before .before .before .before .before .before .args) .settings .levels - 1)) (λ nest. inlineTableTurn (span ((c .before .before .before .before .before .before .before .before .before .before .before .before .before .before .before .before .before .before .before .before .before .before .before .before .before .before .before .before .before .before .before .before .before .before .before .before .args) .head .start) ((c .before .before .before .before .before .before .before .before .before .before .before .before .before .before .before .before .before .before .before .before .before .before .before .before .before .before .before .before .before .before .before .before .before .before .before .before .args) .head .end)) (count ((c .before .before .before .before .before .before .before .before .before .before .before .before .before .before .before .before .before .before .before .before .before .before .before .before .before .before .before .before .before .before .before .before .before .before .before .before .args) .s .now) - (c .before .before .before .before .before .before .before .before .before .before .before .before .before .before .before .before .before .before .before .before .before .before .before .before .before .before .before .before .before .before .before .before .before .before .before .before .args) .c .at) nest) (λ f g w. refl) ((c .before .before .before .before .before .before .before .before .before .before .before .before .before .before .before .before .before .before .before .before .before .before .before .before .before .loop) .p) ((c .before .before .before .before .before .before .before .before .before .before .before .before .before .before .before .before .before .before .before .before .before .before .before .before .before .loop) .inv .0) ((c .before .before .before .before .before .before .before .before .before .before .before .before .before .before .before .before .before .before .before .before .before .inline-table-turn) .result .progress) ((c .before .before .before .before .before .before .before .before .before .before .before .before .before .before .before .before .before .before .before .before .before .inline-table-turn) .ensures) _ ((c .before .before .before .before .before .before .before .before .before .before .before .x) .given .1) ((c .before .before .before .before .before .before .before .on-array-open) .ensures) ((c .before .before .if2) .left), ((c .before .before .before .before .before .before .before .on-array-open .kept .1 .1 .1 .1 .1 .0) ∙ (c .before .before .before .before .before .before .before .before .before .before .before .before .before .before .before .before .before .before .before .before .before .inline-table-turn .kept .1 .1 .1 .1 .1 .1 .1 .0)) ∙ (c .before .before .before .before .before .before .before .before .before .before .before .before .before .before .before .before .before .before .before .before .before .before .before .before .before .loop) .inv .1, ((c .before .before .before .before .before .before .before .on-array-open .kept .1 .1 .1 .1 .1 .1 .0) ∙ (c .before .before .before .before .before .before .before .before .before .before .before .before .before .before .before .before .before .before .before .before .before .inline-table-turn .kept .1 .1 .1 .1 .1 .1 .1 .1 .0)) ∙ (c .before .before .before .before .before .before .before .before .before .before .before .before .before .before .before .before .before .before .before .before .before .before .before .before .before .loop) .inv .2, (c .before .before .before .before .before .before .before .before .before .before .before .before .before .before .before .before .before .before .before .before .before .before .before .before .before .loop) .inv .3)
 
 on-inline-table-open-enum-known-x-2 : (t : ℕ) → on-inline-table-open-lts.Need-enum-known-x-2 (
-  emit-reads.Asked,
-  emit-reads.Learnt,
+  table-open-reads.Asked,
+  table-open-reads.Learnt,
   action-table-reads.Asked,
   action-table-reads.Learnt,
   inline-table-turn-reads.Asked,
@@ -916,8 +917,8 @@ on-inline-table-open-enum-known-x-2 : (t : ℕ) → on-inline-table-open-lts.Nee
 on-inline-table-open-enum-known-x-2 t c = search needs
 
 on-inline-table-open-on-inline-table-open-requires : (t : ℕ) → on-inline-table-open-lts.Need-on-inline-table-open-requires (
-  emit-reads.Asked,
-  emit-reads.Learnt,
+  table-open-reads.Asked,
+  table-open-reads.Learnt,
   action-table-reads.Asked,
   action-table-reads.Learnt,
   inline-table-turn-reads.Asked,
@@ -930,8 +931,8 @@ on-inline-table-open-on-inline-table-open-requires : (t : ℕ) → on-inline-tab
 on-inline-table-open-on-inline-table-open-requires t c κs = (omega (arith, (c .before .before .before .before .before .before .before .before .before .before .before .before .before .before .before .before .before .before .before .before .before .before .before .if1) .left, (c .before .before .before .before .before .before .before .before .before .before .before .before .before .before .before .before .before .before .before .before .before .before .before .before .before .before .before .before .pre) .0), (c .before .before .before .before .before .before .before .before .before .before .before .before .before .inline-table-turn) .ensures .good)
 
 on-inline-table-open-same-length-5 : (t : ℕ) → on-inline-table-open-lts.Need-same-length-5 (
-  emit-reads.Asked,
-  emit-reads.Learnt,
+  table-open-reads.Asked,
+  table-open-reads.Learnt,
   action-table-reads.Asked,
   action-table-reads.Learnt,
   inline-table-turn-reads.Asked,
@@ -941,11 +942,11 @@ on-inline-table-open-same-length-5 : (t : ℕ) → on-inline-table-open-lts.Need
   on-inline-table-open-below t,
   on-inline-table-open.Post,
 ) (on-inline-table-open-at t) on-inline-table-open.Post on-inline-table-open-Inv-loop on-inline-table-open-μ-loop
-on-inline-table-open-same-length-5 t c = ((c .before .before .before .before .before .on-inline-table-open .kept .1 .1 .1 .1 .1 .0) ∙ (c .before .before .before .before .before .before .before .before .before .before .before .before .before .before .before .before .before .before .before .inline-table-turn .kept .1 .1 .1 .1 .1 .1 .1 .0)) ∙ (c .before .before .before .before .before .before .before .before .before .before .before .before .before .before .before .before .before .before .before .before .before .before .before .loop) .inv .1 ∙ (c .before .before .before .before .before .before .before .before .before .before .before .before .before .before .before .before .before .before .before .before .before .before .before .before .before .before .before .emit) .kept .0
+on-inline-table-open-same-length-5 t c = ((c .before .before .before .before .before .on-inline-table-open .kept .1 .1 .1 .1 .1 .0) ∙ (c .before .before .before .before .before .before .before .before .before .before .before .before .before .before .before .before .before .before .before .inline-table-turn .kept .1 .1 .1 .1 .1 .1 .1 .0)) ∙ (c .before .before .before .before .before .before .before .before .before .before .before .before .before .before .before .before .before .before .before .before .before .before .before .loop) .inv .1 ∙ (c .before .before .before .before .before .before .before .before .before .before .before .before .before .before .before .before .before .before .before .before .before .before .before .before .before .before .before .table-open) .kept .0
 
 on-inline-table-open-same-length-6 : (t : ℕ) → on-inline-table-open-lts.Need-same-length-6 (
-  emit-reads.Asked,
-  emit-reads.Learnt,
+  table-open-reads.Asked,
+  table-open-reads.Learnt,
   action-table-reads.Asked,
   action-table-reads.Learnt,
   inline-table-turn-reads.Asked,
@@ -958,8 +959,8 @@ on-inline-table-open-same-length-6 : (t : ℕ) → on-inline-table-open-lts.Need
 on-inline-table-open-same-length-6 t c = ((c .before .before .before .before .before .on-inline-table-open .kept .1 .1 .1 .1 .1 .1 .0) ∙ (c .before .before .before .before .before .before .before .before .before .before .before .before .before .before .before .before .before .before .before .inline-table-turn .kept .1 .1 .1 .1 .1 .1 .1 .1 .0)) ∙ (c .before .before .before .before .before .before .before .before .before .before .before .before .before .before .before .before .before .before .before .before .before .before .before .loop) .inv .2
 
 on-inline-table-open-returns-4 : (t : ℕ) → on-inline-table-open-lts.Need-returns-4 (
-  emit-reads.Asked,
-  emit-reads.Learnt,
+  table-open-reads.Asked,
+  table-open-reads.Learnt,
   action-table-reads.Asked,
   action-table-reads.Learnt,
   inline-table-turn-reads.Asked,
@@ -969,11 +970,11 @@ on-inline-table-open-returns-4 : (t : ℕ) → on-inline-table-open-lts.Need-ret
   on-inline-table-open-below t,
   on-inline-table-open.Post,
 ) (on-inline-table-open-at t) on-inline-table-open.Post on-inline-table-open-Inv-loop on-inline-table-open-μ-loop
-on-inline-table-open-returns-4 t c = nested-as (open-table _ _ ((c .before .before .before .before .before .before .before .before .before .before .before .before .before .before .before .before .before .before .before .before .before .before .before .before .before .before .before .before .before .before .before .before .before .before .args) .settings .levels) _ _ ((c .before .before .before .before .before .before .before .before .before .before .before .before .before .before .before .before .before .before .before .before .before .before .before .before .before .before .before .before .before .if1) .left)) (nested-item _ _ (λ all. (c .before .before .before .before .before .before .before .before .before .before .before .before .before .before .before .before .before .before .before .before .before .before .before .before .before .before .before .emit) .ensures all _) (table-stop (onOpen ((c .before .before .before .before .before .before .before .before .before .before .before .before .before .before .before .before .before .before .before .before .before .before .before .before .before .before .before .before .before .before .before .before .before .before .args) .settings .levels - 1)) (λ nest. inlineTableTurn (span ((c .before .before .before .before .before .before .before .before .before .before .before .before .before .before .before .before .before .before .before .before .before .before .before .before .before .before .before .before .before .before .before .before .before .before .args) .head .start) ((c .before .before .before .before .before .before .before .before .before .before .before .before .before .before .before .before .before .before .before .before .before .before .before .before .before .before .before .before .before .before .before .before .before .before .args) .head .end)) (count ((c .before .before .before .before .before .before .before .before .before .before .before .before .before .before .before .before .before .before .before .before .before .before .before .before .before .before .before .before .before .before .before .before .before .before .args) .s .now) - (c .before .before .before .before .before .before .before .before .before .before .before .before .before .before .before .before .before .before .before .before .before .before .before .before .before .before .before .before .before .before .before .before .before .before .args) .c .at) nest) (λ f g w. refl) ((c .before .before .before .before .before .before .before .before .before .before .before .before .before .before .before .before .before .before .before .before .before .before .before .loop) .p) ((c .before .before .before .before .before .before .before .before .before .before .before .before .before .before .before .before .before .before .before .before .before .before .before .loop) .inv .0) ((c .before .before .before .before .before .before .before .before .before .before .before .before .before .before .before .before .before .before .before .inline-table-turn) .result .progress) ((c .before .before .before .before .before .before .before .before .before .before .before .before .before .before .before .before .before .before .before .inline-table-turn) .ensures) _ ((c .before .before .before .before .before .before .before .before .before .x2) .given .1) ((c .before .before .before .before .before .on-inline-table-open) .ensures) ((c .if3) .taken)))
+on-inline-table-open-returns-4 t c = nested-as (open-table _ _ ((c .before .before .before .before .before .before .before .before .before .before .before .before .before .before .before .before .before .before .before .before .before .before .before .before .before .before .before .before .before .before .before .before .before .before .args) .settings .levels) _ _ ((c .before .before .before .before .before .before .before .before .before .before .before .before .before .before .before .before .before .before .before .before .before .before .before .before .before .before .before .before .before .if1) .left)) (nested-item _ _ (λ all. (c .before .before .before .before .before .before .before .before .before .before .before .before .before .before .before .before .before .before .before .before .before .before .before .before .before .before .before .table-open) .ensures all _) (table-stop (onOpen ((c .before .before .before .before .before .before .before .before .before .before .before .before .before .before .before .before .before .before .before .before .before .before .before .before .before .before .before .before .before .before .before .before .before .before .args) .settings .levels - 1)) (λ nest. inlineTableTurn (span ((c .before .before .before .before .before .before .before .before .before .before .before .before .before .before .before .before .before .before .before .before .before .before .before .before .before .before .before .before .before .before .before .before .before .before .args) .head .start) ((c .before .before .before .before .before .before .before .before .before .before .before .before .before .before .before .before .before .before .before .before .before .before .before .before .before .before .before .before .before .before .before .before .before .before .args) .head .end)) (count ((c .before .before .before .before .before .before .before .before .before .before .before .before .before .before .before .before .before .before .before .before .before .before .before .before .before .before .before .before .before .before .before .before .before .before .args) .s .now) - (c .before .before .before .before .before .before .before .before .before .before .before .before .before .before .before .before .before .before .before .before .before .before .before .before .before .before .before .before .before .before .before .before .before .before .args) .c .at) nest) (λ f g w. refl) ((c .before .before .before .before .before .before .before .before .before .before .before .before .before .before .before .before .before .before .before .before .before .before .before .loop) .p) ((c .before .before .before .before .before .before .before .before .before .before .before .before .before .before .before .before .before .before .before .before .before .before .before .loop) .inv .0) ((c .before .before .before .before .before .before .before .before .before .before .before .before .before .before .before .before .before .before .before .inline-table-turn) .result .progress) ((c .before .before .before .before .before .before .before .before .before .before .before .before .before .before .before .before .before .before .before .inline-table-turn) .ensures) _ ((c .before .before .before .before .before .before .before .before .before .x2) .given .1) ((c .before .before .before .before .before .on-inline-table-open) .ensures) ((c .if3) .taken)))
 
 on-inline-table-open-loop-less-3 : (t : ℕ) → on-inline-table-open-lts.Need-loop-less-3 (
-  emit-reads.Asked,
-  emit-reads.Learnt,
+  table-open-reads.Asked,
+  table-open-reads.Learnt,
   action-table-reads.Asked,
   action-table-reads.Learnt,
   inline-table-turn-reads.Asked,
@@ -986,8 +987,8 @@ on-inline-table-open-loop-less-3 : (t : ℕ) → on-inline-table-open-lts.Need-l
 on-inline-table-open-loop-less-3 t c = omega (arith, table-moved (onOpen ((c .before .before .before .before .before .before .before .before .before .before .before .before .before .before .before .before .before .before .before .before .before .before .before .before .before .before .before .before .before .before .before .before .before .before .before .before .args) .settings .levels - 1)) (λ nest. inlineTableTurn (span ((c .before .before .before .before .before .before .before .before .before .before .before .before .before .before .before .before .before .before .before .before .before .before .before .before .before .before .before .before .before .before .before .before .before .before .before .before .args) .head .start) ((c .before .before .before .before .before .before .before .before .before .before .before .before .before .before .before .before .before .before .before .before .before .before .before .before .before .before .before .before .before .before .before .before .before .before .before .before .args) .head .end)) (count ((c .before .before .before .before .before .before .before .before .before .before .before .before .before .before .before .before .before .before .before .before .before .before .before .before .before .before .before .before .before .before .before .before .before .before .before .before .args) .s .now) - (c .before .before .before .before .before .before .before .before .before .before .before .before .before .before .before .before .before .before .before .before .before .before .before .before .before .before .before .before .before .before .before .before .before .before .before .before .args) .c .at) nest) (λ f g w. refl) ((c .before .before .before .before .before .before .before .before .before .before .before .before .before .before .before .before .before .before .before .before .before .before .before .before .before .loop) .p) ((c .before .before .before .before .before .before .before .before .before .before .before .before .before .before .before .before .before .before .before .before .before .before .before .before .before .loop) .inv .0) ((c .before .before .before .before .before .before .before .before .before .before .before .before .before .before .before .before .before .before .before .before .before .inline-table-turn) .result .progress) ((c .before .before .before .before .before .before .before .before .before .before .before .before .before .before .before .before .before .before .before .before .before .inline-table-turn) .ensures) _ ((c .before .before .before .before .before .before .before .before .before .before .before .x2) .given .1), (c .before .before .before .before .before .before .before .on-inline-table-open) .ensures .on, (c .before .before .before .before .before .before .before .on-inline-table-open) .ensures .good .low)
 
 on-inline-table-open-loop-again-3 : (t : ℕ) → on-inline-table-open-lts.Need-loop-again-3 (
-  emit-reads.Asked,
-  emit-reads.Learnt,
+  table-open-reads.Asked,
+  table-open-reads.Learnt,
   action-table-reads.Asked,
   action-table-reads.Learnt,
   inline-table-turn-reads.Asked,
@@ -1003,8 +1004,8 @@ pub +on-array-open+on-inline-table-open-spec : {M : Type 1} → statement M
 +on-array-open+on-inline-table-open-spec =
     close μ-on-array-open μ-on-inline-table-open
     (λ t. on-array-open-lts.spec (
-      emit-reads.Asked,
-      emit-reads.Learnt,
+      array-open-reads.Asked,
+      array-open-reads.Learnt,
       array-turns-reads.Asked,
       array-turns-reads.Learnt,
       on-array-open-below t,
@@ -1017,7 +1018,7 @@ pub +on-array-open+on-inline-table-open-spec : {M : Type 1} → statement M
     on-array-open-Inv-loop
     on-array-open-μ-loop
     (on-array-open-returns t)
-    (on-array-open-emit-requires t)
+    (on-array-open-array-open-requires t)
     (on-array-open-sub-left t)
     (on-array-open-loop-holds t)
     (on-array-open-array-turns-requires t)
@@ -1030,10 +1031,10 @@ pub +on-array-open+on-inline-table-open-spec : {M : Type 1} → statement M
     (on-array-open-returns-2 t)
     (on-array-open-sub-depth t)
     (on-array-open-add-left t)
-    (on-array-open-mul-t45 t)
-    (on-array-open-array-read-t48 t)
-    (on-array-open-mul-t49 t)
-    (on-array-open-array-read-t52 t)
+    (on-array-open-mul-t44 t)
+    (on-array-open-array-read-t47 t)
+    (on-array-open-mul-t48 t)
+    (on-array-open-array-read-t51 t)
     (on-array-open-loop-less-2 t)
     (on-array-open-loop-again-2 t)
     (on-array-open-enum-known-x t)
@@ -1046,7 +1047,7 @@ pub +on-array-open+on-inline-table-open-spec : {M : Type 1} → statement M
     (on-array-open-array-write-ends t)
     (on-array-open-add-depth t)
     (on-array-open-sub-left-2 t)
-    (on-array-open-emit-requires-2 t)
+    (on-array-open-array-open-requires-2 t)
     (on-array-open-loop-less-3 t)
     (on-array-open-loop-again-3 t)
     (on-array-open-on-array-open-requires t)
@@ -1063,8 +1064,8 @@ pub +on-array-open+on-inline-table-open-spec : {M : Type 1} → statement M
     (on-array-open-loop-less-5 t)
     (on-array-open-loop-again-5 t))
     λ t. on-inline-table-open-lts.spec (
-      emit-reads.Asked,
-      emit-reads.Learnt,
+      table-open-reads.Asked,
+      table-open-reads.Learnt,
       action-table-reads.Asked,
       action-table-reads.Learnt,
       inline-table-turn-reads.Asked,
@@ -1079,9 +1080,9 @@ pub +on-array-open+on-inline-table-open-spec : {M : Type 1} → statement M
     on-inline-table-open-Inv-loop
     on-inline-table-open-μ-loop
     (on-inline-table-open-returns t)
-    (on-inline-table-open-emit-requires t)
+    (on-inline-table-open-table-open-requires t)
     (on-inline-table-open-action-table-requires t)
-    (on-inline-table-open-sub-t37 t)
+    (on-inline-table-open-sub-t36 t)
     (on-inline-table-open-loop-holds t)
     (on-inline-table-open-inline-table-turn-requires t)
     (on-inline-table-open-enum-told t)
