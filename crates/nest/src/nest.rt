@@ -15,7 +15,6 @@ use rules::inline_table::State;
 use rules::options::Settings;
 use token::cursor::Cursor;
 use token::cursor::Token;
-use token::kind::Kind;
 ghost use mathlib.Core.Path.{_≡_};
 ghost use mathlib.Core.Bool.{false};
 ghost use Rattle.token.specs.Tokens.{Good, tokensAt};
@@ -59,9 +58,8 @@ pub fn on_array_open(
     requires { ⌜ Good (now s) c ⌝ }
     ensures { λ r. ⌜ Nested (now (s .entry)) (onArrayOpen (settings .levels) (head .start) (head .end) (tokensAt (now (s .entry)) c)) c (bufs (now (events .entry)) (now (errors .entry)) m) (now (events .exit)) (now (errors .exit)) r ⌝ }
 {
-    let levels = settings.levels;
     let options = settings.options;
-    if levels == 0 {
+    if settings.levels == 0 {
         return NestWalk {
             cur: c,
             n: m,
@@ -71,7 +69,7 @@ pub fn on_array_open(
     let mut n = array_open(events, m, head);
     let mut cur = c;
     let mut state = ArrayState::NeedsValue;
-    let mut left = levels - 1;
+    let mut left = settings.levels - 1;
     let mut inner = head;
     let mut starts = [0u32; HELD];
     let mut ends = [0u32; HELD];
@@ -95,11 +93,8 @@ pub fn on_array_open(
                 }
                 depth -= 1;
                 left += 1;
-                inner = Token {
-                    kind: Kind::LeftSquareBracket,
-                    start: starts[depth],
-                    end: ends[depth],
-                };
+                inner.start = starts[depth];
+                inner.end = ends[depth];
                 state = ArrayState::NeedsComma;
             }
             Next::OpenArray(t) => {
@@ -127,8 +122,7 @@ pub fn on_array_open(
                         options,
                     };
                     let v = on_array_open(list, t, from, sofar, inside, events, errors);
-                    let stopped = v.stopped;
-                    if stopped {
+                    if v.stopped {
                         return v;
                     }
                     cur = v.cur;
@@ -144,8 +138,7 @@ pub fn on_array_open(
                     options,
                 };
                 let v = on_inline_table_open(list, t, from, sofar, inside, events, errors);
-                let stopped = v.stopped;
-                if stopped {
+                if v.stopped {
                     return v;
                 }
                 cur = v.cur;
@@ -214,8 +207,7 @@ pub fn on_inline_table_open(
                 let from = cur;
                 let sofar = n;
                 let v = on_array_open(list, t, from, sofar, inside, events, errors);
-                let stopped = v.stopped;
-                if stopped {
+                if v.stopped {
                     return v;
                 }
                 cur = v.cur;
@@ -226,8 +218,7 @@ pub fn on_inline_table_open(
                 let from = cur;
                 let sofar = n;
                 let v = on_inline_table_open(list, t, from, sofar, inside, events, errors);
-                let stopped = v.stopped;
-                if stopped {
+                if v.stopped {
                     return v;
                 }
                 cur = v.cur;

@@ -55,12 +55,12 @@ abbrev on-inline-table-open-below : ℕ → In 3 on-inline-table-open-kinds.ps
 on-inline-table-open-below t = and 3 on-inline-table-open-kinds.ps (falls 3 on-inline-table-open-kinds.ps _<_ μ-on-inline-table-open t) on-inline-table-open.Pre
 
 abbrev on-array-open-Inv-loop : on-array-open-lts.InvT-loop
-on-array-open-Inv-loop s events₀ errors₀ levels options n₀ cur₀ state₀ left₀ inner₀ starts₀ ends₀ depth₀ events errors n cur state left inner starts ends depth =
-    Stacked s levels (looping (arrayTurn (span (inner₀ .start) (inner₀ .end)) (onOpen left₀)) state₀ (tokensAt s cur₀)) (bufs events₀ errors₀ n₀) cur₀ starts ends depth left (inner .start) (inner .end) state (bufs events errors n) cur
+on-array-open-Inv-loop s events₀ errors₀ options n₀ cur₀ state₀ left₀ inner₀ starts₀ ends₀ depth₀ events errors n cur state left inner starts ends depth =
+    Stacked s left₀ (looping (arrayTurn (span (inner₀ .start) (inner₀ .end)) (onOpen left₀)) state₀ (tokensAt s cur₀)) (bufs events₀ errors₀ n₀) cur₀ starts ends depth left (inner .start) (inner .end) state (bufs events errors n) cur
     × (length starts ≡ 16) × (length ends ≡ 16) × (length events ≡ length events₀) × (length errors ≡ length errors₀) × (depth ≤ 16)
 
 abbrev on-array-open-μ-loop : on-array-open-lts.MeasureT-loop
-on-array-open-μ-loop s events₀ errors₀ levels options n₀ cur₀ state₀ left₀ inner₀ starts₀ ends₀ depth₀ events errors n cur state left inner starts ends depth = (count s - cur .at) + (count s - cur .at) + depth
+on-array-open-μ-loop s events₀ errors₀ options n₀ cur₀ state₀ left₀ inner₀ starts₀ ends₀ depth₀ events errors n cur state left inner starts ends depth = (count s - cur .at) + (count s - cur .at) + depth
 
 on-array-open-returns : (t : ℕ) → on-array-open-lts.Need-returns (
   array-open-reads.Asked,
@@ -72,7 +72,7 @@ on-array-open-returns : (t : ℕ) → on-array-open-lts.Need-returns (
   on-inline-table-open-below t,
   on-inline-table-open.Post,
 ) (on-array-open-at t) on-array-open.Post on-array-open-Inv-loop on-array-open-μ-loop
-on-array-open-returns t c = no-level ((c .before .before .before .before .before .args) .settings .levels) Bracket.Square _ _ _ _ _ _ ((c .if1) .taken) ((c .before .before .before .before .before .pre) .1)
+on-array-open-returns t c = no-level ((c .before .before .before .before .before .before .args) .settings .levels) Bracket.Square _ _ _ _ _ _ ((c .if1) .taken) ((c .before .before .before .before .before .before .pre) .1)
 
 on-array-open-array-open-requires : (t : ℕ) → on-array-open-lts.Need-array-open-requires (
   array-open-reads.Asked,
@@ -96,7 +96,7 @@ on-array-open-sub-left : (t : ℕ) → on-array-open-lts.Need-sub-left (
   on-inline-table-open-below t,
   on-inline-table-open.Post,
 ) (on-array-open-at t) on-array-open.Post on-array-open-Inv-loop on-array-open-μ-loop
-on-array-open-sub-left t c = omega (arith, (c .before .before .before .before .if1) .left)
+on-array-open-sub-left t c = omega (arith, (c .before .before .before .before .before .if1) .left)
 
 on-array-open-loop-holds : (t : ℕ) → on-array-open-lts.Need-loop-holds (
   array-open-reads.Asked,
@@ -108,7 +108,7 @@ on-array-open-loop-holds : (t : ℕ) → on-array-open-lts.Need-loop-holds (
   on-inline-table-open-below t,
   on-inline-table-open.Post,
 ) (on-array-open-at t) on-array-open.Post on-array-open-Inv-loop on-array-open-μ-loop
-on-array-open-loop-holds t c = (stack-begun _ _ _ _ _ _ _ _ _ ((c .before .before .before .before .if1) .left) ((c .before .before .before .before .before .before .before .before .before .pre) .1), refl, refl, refl, refl, omega arith)
+on-array-open-loop-holds t c = (stack-begun _ _ _ _ _ _ _ _ _ ((c .before .before .before .before .before .before .before .before .before .before .before .pre) .1), refl, refl, refl, refl, omega arith)
 
 on-array-open-array-turns-requires : (t : ℕ) → on-array-open-lts.Need-array-turns-requires (
   array-open-reads.Asked,
@@ -180,7 +180,7 @@ on-array-open-same-length : (t : ℕ) → on-array-open-lts.Need-same-length (
   on-inline-table-open-below t,
   on-inline-table-open.Post,
 ) (on-array-open-at t) on-array-open.Post on-array-open-Inv-loop on-array-open-μ-loop
-on-array-open-same-length t c = ((c .before .before .before .before .before .before .before .before .before .before .array-turns .kept .1 .1 .1 .1 .1 .0)) ∙ (c .before .before .before .before .before .before .before .before .before .before .before .before .before .loop) .inv .3 ∙ (c .before .before .before .before .before .before .before .before .before .before .before .before .before .before .before .before .array-open) .kept .0
+on-array-open-same-length t c = ((c .before .before .before .before .before .before .before .before .before .before .array-turns .kept .1 .1 .1 .1 .1 .0)) ∙ (c .before .before .before .before .before .before .before .before .before .before .before .before .before .loop) .inv .3 ∙ (c .before .before .before .before .before .before .before .before .before .before .before .before .before .before .before .before .before .array-open) .kept .0
 
 on-array-open-same-length-2 : (t : ℕ) → on-array-open-lts.Need-same-length-2 (
   array-open-reads.Asked,
@@ -204,7 +204,7 @@ on-array-open-returns-2 : (t : ℕ) → on-array-open-lts.Need-returns-2 (
   on-inline-table-open-below t,
   on-inline-table-open.Post,
 ) (on-array-open-at t) on-array-open.Post on-array-open-Inv-loop on-array-open-μ-loop
-on-array-open-returns-2 t c = nested-as (open-array ((c .before .before .before .before .before .before .before .before .before .before .before .before .before .before .before .before .before .before .before .before .before .before .before .args) .settings .levels) _ _ _ ((c .before .before .before .before .before .before .before .before .before .before .before .before .before .before .before .before .before .before .if1) .left)) (nested-item _ _ (λ all. (c .before .before .before .before .before .before .before .before .before .before .before .before .before .before .before .before .array-open) .ensures all _) (stack-over ((c .before .before .before .before .before .before .before .before .before .before .before .before .before .loop) .inv .0) _ ((c .before .before .before .before .before .before .before .before .before .before .array-turns) .ensures) ((c .before .enum-told2) .given .1) ((c .if2) .taken)))
+on-array-open-returns-2 t c = nested-as (open-array ((c .before .before .before .before .before .before .before .before .before .before .before .before .before .before .before .before .before .before .before .before .before .before .before .before .before .args) .settings .levels) _ _ _ ((c .before .before .before .before .before .before .before .before .before .before .before .before .before .before .before .before .before .before .before .if1) .left)) (nested-item _ _ (λ all. (c .before .before .before .before .before .before .before .before .before .before .before .before .before .before .before .before .before .array-open) .ensures all _) (stack-over ((c .before .before .before .before .before .before .before .before .before .before .before .before .before .loop) .inv .0) _ ((c .before .before .before .before .before .before .before .before .before .before .array-turns) .ensures) ((c .before .enum-told2) .given .1) ((c .if2) .taken)))
 
 on-array-open-sub-depth : (t : ℕ) → on-array-open-lts.Need-sub-depth (
   array-open-reads.Asked,
@@ -228,9 +228,9 @@ on-array-open-add-left : (t : ℕ) → on-array-open-lts.Need-add-left (
   on-inline-table-open-below t,
   on-inline-table-open.Post,
 ) (on-array-open-at t) on-array-open.Post on-array-open-Inv-loop on-array-open-μ-loop
-on-array-open-add-left t c = omega (arith, ((c .before .before .before .before .before .before .before .before .before .before .before .before .before .loop) .inv .0) .sum, (c .if2) .left, (c .before .before .before .before .before .before .before .before .before .before .before .before .before .before .before .before .before .before .before .before .before .before .before .good))
+on-array-open-add-left t c = omega (arith, ((c .before .before .before .before .before .before .before .before .before .before .before .before .before .loop) .inv .0) .sum, (c .if2) .left, (c .before .before .before .before .before .before .before .before .before .before .before .before .before .before .before .before .before .before .before .before .before .before .before .before .before .good))
 
-on-array-open-mul-t44 : (t : ℕ) → on-array-open-lts.Need-mul-t44 (
+on-array-open-mul-inner : (t : ℕ) → on-array-open-lts.Need-mul-inner (
   array-open-reads.Asked,
   array-open-reads.Learnt,
   array-turns-reads.Asked,
@@ -240,9 +240,9 @@ on-array-open-mul-t44 : (t : ℕ) → on-array-open-lts.Need-mul-t44 (
   on-inline-table-open-below t,
   on-inline-table-open.Post,
 ) (on-array-open-at t) on-array-open.Post on-array-open-Inv-loop on-array-open-μ-loop
-on-array-open-mul-t44 t c = record { fits = omega (arith, (c .before .before .before .before .before .before .before .before .before .before .before .before .before .loop) .inv .5) }
+on-array-open-mul-inner t c = record { fits = omega (arith, (c .before .before .before .before .before .before .before .before .before .before .before .before .before .loop) .inv .5) }
 
-on-array-open-array-read-t47 : (t : ℕ) → on-array-open-lts.Need-array-read-t47 (
+on-array-open-array-read-inner : (t : ℕ) → on-array-open-lts.Need-array-read-inner (
   array-open-reads.Asked,
   array-open-reads.Learnt,
   array-turns-reads.Asked,
@@ -252,9 +252,9 @@ on-array-open-array-read-t47 : (t : ℕ) → on-array-open-lts.Need-array-read-t
   on-inline-table-open-below t,
   on-inline-table-open.Post,
 ) (on-array-open-at t) on-array-open.Post on-array-open-Inv-loop on-array-open-μ-loop
-on-array-open-array-read-t47 t c = omega (arith, (c .before .before .before .before .before .before .before .before .before .before .before .before .before .loop) .inv .5, (c .if2) .left)
+on-array-open-array-read-inner t c = omega (arith, (c .before .before .before .before .before .before .before .before .before .before .before .before .before .loop) .inv .5, (c .if2) .left)
 
-on-array-open-mul-t48 : (t : ℕ) → on-array-open-lts.Need-mul-t48 (
+on-array-open-mul-inner-2 : (t : ℕ) → on-array-open-lts.Need-mul-inner-2 (
   array-open-reads.Asked,
   array-open-reads.Learnt,
   array-turns-reads.Asked,
@@ -264,9 +264,9 @@ on-array-open-mul-t48 : (t : ℕ) → on-array-open-lts.Need-mul-t48 (
   on-inline-table-open-below t,
   on-inline-table-open.Post,
 ) (on-array-open-at t) on-array-open.Post on-array-open-Inv-loop on-array-open-μ-loop
-on-array-open-mul-t48 t c = record { fits = omega (arith, (c .before .before .before .before .before .before .before .before .before .before .before .before .before .loop) .inv .5) }
+on-array-open-mul-inner-2 t c = record { fits = omega (arith, (c .before .before .before .before .before .before .before .before .before .before .before .before .before .loop) .inv .5) }
 
-on-array-open-array-read-t51 : (t : ℕ) → on-array-open-lts.Need-array-read-t51 (
+on-array-open-array-read-inner-2 : (t : ℕ) → on-array-open-lts.Need-array-read-inner-2 (
   array-open-reads.Asked,
   array-open-reads.Learnt,
   array-turns-reads.Asked,
@@ -276,7 +276,7 @@ on-array-open-array-read-t51 : (t : ℕ) → on-array-open-lts.Need-array-read-t
   on-inline-table-open-below t,
   on-inline-table-open.Post,
 ) (on-array-open-at t) on-array-open.Post on-array-open-Inv-loop on-array-open-μ-loop
-on-array-open-array-read-t51 t c = omega (arith, (c .before .before .before .before .before .before .before .before .before .before .before .before .before .loop) .inv .5, (c .if2) .left)
+on-array-open-array-read-inner-2 t c = omega (arith, (c .before .before .before .before .before .before .before .before .before .before .before .before .before .loop) .inv .5, (c .if2) .left)
 
 on-array-open-loop-less-2 : (t : ℕ) → on-array-open-lts.Need-loop-less-2 (
   array-open-reads.Asked,
@@ -324,7 +324,7 @@ on-array-open-same-length-3 : (t : ℕ) → on-array-open-lts.Need-same-length-3
   on-inline-table-open-below t,
   on-inline-table-open.Post,
 ) (on-array-open-at t) on-array-open.Post on-array-open-Inv-loop on-array-open-μ-loop
-on-array-open-same-length-3 t c = ((c .before .before .before .before .before .before .before .before .before .before .before .array-turns .kept .1 .1 .1 .1 .1 .0)) ∙ (c .before .before .before .before .before .before .before .before .before .before .before .before .before .before .loop) .inv .3 ∙ (c .before .before .before .before .before .before .before .before .before .before .before .before .before .before .before .before .before .array-open) .kept .0
+on-array-open-same-length-3 t c = ((c .before .before .before .before .before .before .before .before .before .before .before .array-turns .kept .1 .1 .1 .1 .1 .0)) ∙ (c .before .before .before .before .before .before .before .before .before .before .before .before .before .before .loop) .inv .3 ∙ (c .before .before .before .before .before .before .before .before .before .before .before .before .before .before .before .before .before .before .array-open) .kept .0
 
 on-array-open-same-length-4 : (t : ℕ) → on-array-open-lts.Need-same-length-4 (
   array-open-reads.Asked,
@@ -348,7 +348,7 @@ on-array-open-returns-3 : (t : ℕ) → on-array-open-lts.Need-returns-3 (
   on-inline-table-open-below t,
   on-inline-table-open.Post,
 ) (on-array-open-at t) on-array-open.Post on-array-open-Inv-loop on-array-open-μ-loop
-on-array-open-returns-3 t c = nested-as (open-array ((c .before .before .before .before .before .before .before .before .before .before .before .before .before .before .before .before .before .before .before .before .before .before .before .before .args) .settings .levels) _ _ _ ((c .before .before .before .before .before .before .before .before .before .before .before .before .before .before .before .before .before .before .before .if1) .left)) (nested-item _ _ (λ all. (c .before .before .before .before .before .before .before .before .before .before .before .before .before .before .before .before .before .array-open) .ensures all _) (stack-none ((c .before .before .before .before .before .before .before .before .before .before .before .before .before .before .loop) .inv .0) _ ((c .before .before .before .before .before .before .before .before .before .before .before .array-turns) .ensures) _ ((c .before .before .x) .given .1) ((c .if3) .taken)))
+on-array-open-returns-3 t c = nested-as (open-array ((c .before .before .before .before .before .before .before .before .before .before .before .before .before .before .before .before .before .before .before .before .before .before .before .before .before .before .args) .settings .levels) _ _ _ ((c .before .before .before .before .before .before .before .before .before .before .before .before .before .before .before .before .before .before .before .before .if1) .left)) (nested-item _ _ (λ all. (c .before .before .before .before .before .before .before .before .before .before .before .before .before .before .before .before .before .before .array-open) .ensures all _) (stack-none ((c .before .before .before .before .before .before .before .before .before .before .before .before .before .before .loop) .inv .0) _ ((c .before .before .before .before .before .before .before .before .before .before .before .array-turns) .ensures) _ ((c .before .before .x) .given .1) ((c .if3) .taken)))
 
 on-array-open-mul-starts : (t : ℕ) → on-array-open-lts.Need-mul-starts (
   array-open-reads.Asked,
@@ -468,7 +468,7 @@ on-array-open-on-array-open-requires : (t : ℕ) → on-array-open-lts.Need-on-a
   on-inline-table-open-below t,
   on-inline-table-open.Post,
 ) (on-array-open-at t) on-array-open.Post on-array-open-Inv-loop on-array-open-μ-loop
-on-array-open-on-array-open-requires t c κs = (omega (arith, ((c .before .before .before .before .before .before .before .before .before .before .before .before .before .before .before .before .before .loop) .inv .0) .sum, (c .before .before .before .before .before .before .before .before .before .before .before .before .before .before .before .before .before .before .before .before .before .before .before .before .before .before .before .pre) .0), (c .before .before .before .before .before .before .before .before .before .before .before .before .before .before .array-turns) .ensures .good)
+on-array-open-on-array-open-requires t c κs = (omega (arith, ((c .before .before .before .before .before .before .before .before .before .before .before .before .before .before .before .before .before .loop) .inv .0) .sum, (c .before .before .before .before .before .before .before .before .before .before .before .before .before .before .before .before .before .before .before .before .before .before .before .if1) .left, (c .before .before .before .before .before .before .before .before .before .before .before .before .before .before .before .before .before .before .before .before .before .before .before .before .before .before .before .before .before .pre) .0), (c .before .before .before .before .before .before .before .before .before .before .before .before .before .before .array-turns) .ensures .good)
 
 on-array-open-same-length-5 : (t : ℕ) → on-array-open-lts.Need-same-length-5 (
   array-open-reads.Asked,
@@ -480,7 +480,7 @@ on-array-open-same-length-5 : (t : ℕ) → on-array-open-lts.Need-same-length-5
   on-inline-table-open-below t,
   on-inline-table-open.Post,
 ) (on-array-open-at t) on-array-open.Post on-array-open-Inv-loop on-array-open-μ-loop
-on-array-open-same-length-5 t c = ((c .before .before .before .before .before .on-array-open .kept .1 .1 .1 .1 .1 .0) ∙ (c .before .before .before .before .before .before .before .before .before .before .before .before .before .before .before .before .before .before .before .before .array-turns .kept .1 .1 .1 .1 .1 .0)) ∙ (c .before .before .before .before .before .before .before .before .before .before .before .before .before .before .before .before .before .before .before .before .before .before .before .loop) .inv .3 ∙ (c .before .before .before .before .before .before .before .before .before .before .before .before .before .before .before .before .before .before .before .before .before .before .before .before .before .before .array-open) .kept .0
+on-array-open-same-length-5 t c = ((c .before .before .before .before .before .on-array-open .kept .1 .1 .1 .1 .1 .0) ∙ (c .before .before .before .before .before .before .before .before .before .before .before .before .before .before .before .before .before .before .before .before .array-turns .kept .1 .1 .1 .1 .1 .0)) ∙ (c .before .before .before .before .before .before .before .before .before .before .before .before .before .before .before .before .before .before .before .before .before .before .before .loop) .inv .3 ∙ (c .before .before .before .before .before .before .before .before .before .before .before .before .before .before .before .before .before .before .before .before .before .before .before .before .before .before .before .array-open) .kept .0
 
 on-array-open-same-length-6 : (t : ℕ) → on-array-open-lts.Need-same-length-6 (
   array-open-reads.Asked,
@@ -504,7 +504,7 @@ on-array-open-returns-4 : (t : ℕ) → on-array-open-lts.Need-returns-4 (
   on-inline-table-open-below t,
   on-inline-table-open.Post,
 ) (on-array-open-at t) on-array-open.Post on-array-open-Inv-loop on-array-open-μ-loop
-on-array-open-returns-4 t c = nested-as (open-array ((c .before .before .before .before .before .before .before .before .before .before .before .before .before .before .before .before .before .before .before .before .before .before .before .before .before .before .before .before .before .before .before .before .before .args) .settings .levels) _ _ _ ((c .before .before .before .before .before .before .before .before .before .before .before .before .before .before .before .before .before .before .before .before .before .before .before .before .before .before .before .before .if1) .left)) (nested-item _ _ (λ all. (c .before .before .before .before .before .before .before .before .before .before .before .before .before .before .before .before .before .before .before .before .before .before .before .before .before .before .array-open) .ensures all _) (stack-array-stop ((c .before .before .before .before .before .before .before .before .before .before .before .before .before .before .before .before .before .before .before .before .before .before .before .loop) .inv .0) _ ((c .before .before .before .before .before .before .before .before .before .before .before .before .before .before .before .before .before .before .before .before .array-turns) .ensures) _ ((c .before .before .before .before .before .before .before .before .before .before .before .x) .given .1) ((c .before .before .before .before .before .on-array-open) .ensures) ((c .if5) .taken)))
+on-array-open-returns-4 t c = nested-as (open-array ((c .before .before .before .before .before .before .before .before .before .before .before .before .before .before .before .before .before .before .before .before .before .before .before .before .before .before .before .before .before .before .before .before .before .before .before .args) .settings .levels) _ _ _ ((c .before .before .before .before .before .before .before .before .before .before .before .before .before .before .before .before .before .before .before .before .before .before .before .before .before .before .before .before .before .if1) .left)) (nested-item _ _ (λ all. (c .before .before .before .before .before .before .before .before .before .before .before .before .before .before .before .before .before .before .before .before .before .before .before .before .before .before .before .array-open) .ensures all _) (stack-array-stop ((c .before .before .before .before .before .before .before .before .before .before .before .before .before .before .before .before .before .before .before .before .before .before .before .loop) .inv .0) _ ((c .before .before .before .before .before .before .before .before .before .before .before .before .before .before .before .before .before .before .before .before .array-turns) .ensures) _ ((c .before .before .before .before .before .before .before .before .before .before .before .x) .given .1) ((c .before .before .before .before .before .on-array-open) .ensures) ((c .if5) .taken)))
 
 on-array-open-loop-less-4 : (t : ℕ) → on-array-open-lts.Need-loop-less-4 (
   array-open-reads.Asked,
@@ -552,7 +552,7 @@ on-array-open-on-inline-table-open-requires : (t : ℕ) → on-array-open-lts.Ne
   on-inline-table-open-below t,
   on-inline-table-open.Post,
 ) (on-array-open-at t) on-array-open.Post on-array-open-Inv-loop on-array-open-μ-loop
-on-array-open-on-inline-table-open-requires t c κs = (omega (arith, ((c .before .before .before .before .before .before .before .before .before .before .before .before .before .before .before .loop) .inv .0) .sum, (c .before .before .before .before .before .before .before .before .before .before .before .before .before .before .before .before .before .before .before .before .before .before .before .before .before .pre) .0), (c .before .before .before .before .before .before .before .before .before .before .before .before .array-turns) .ensures .good)
+on-array-open-on-inline-table-open-requires t c κs = (omega (arith, ((c .before .before .before .before .before .before .before .before .before .before .before .before .before .before .before .loop) .inv .0) .sum, (c .before .before .before .before .before .before .before .before .before .before .before .before .before .before .before .before .before .before .before .before .before .if1) .left, (c .before .before .before .before .before .before .before .before .before .before .before .before .before .before .before .before .before .before .before .before .before .before .before .before .before .before .before .pre) .0), (c .before .before .before .before .before .before .before .before .before .before .before .before .array-turns) .ensures .good)
 
 on-array-open-same-length-7 : (t : ℕ) → on-array-open-lts.Need-same-length-7 (
   array-open-reads.Asked,
@@ -564,7 +564,7 @@ on-array-open-same-length-7 : (t : ℕ) → on-array-open-lts.Need-same-length-7
   on-inline-table-open-below t,
   on-inline-table-open.Post,
 ) (on-array-open-at t) on-array-open.Post on-array-open-Inv-loop on-array-open-μ-loop
-on-array-open-same-length-7 t c = ((c .before .before .before .before .before .on-inline-table-open .kept .1 .1 .1 .1 .1 .0) ∙ (c .before .before .before .before .before .before .before .before .before .before .before .before .before .before .before .before .before .before .array-turns .kept .1 .1 .1 .1 .1 .0)) ∙ (c .before .before .before .before .before .before .before .before .before .before .before .before .before .before .before .before .before .before .before .before .before .loop) .inv .3 ∙ (c .before .before .before .before .before .before .before .before .before .before .before .before .before .before .before .before .before .before .before .before .before .before .before .before .array-open) .kept .0
+on-array-open-same-length-7 t c = ((c .before .before .before .before .before .on-inline-table-open .kept .1 .1 .1 .1 .1 .0) ∙ (c .before .before .before .before .before .before .before .before .before .before .before .before .before .before .before .before .before .before .array-turns .kept .1 .1 .1 .1 .1 .0)) ∙ (c .before .before .before .before .before .before .before .before .before .before .before .before .before .before .before .before .before .before .before .before .before .loop) .inv .3 ∙ (c .before .before .before .before .before .before .before .before .before .before .before .before .before .before .before .before .before .before .before .before .before .before .before .before .before .array-open) .kept .0
 
 on-array-open-same-length-8 : (t : ℕ) → on-array-open-lts.Need-same-length-8 (
   array-open-reads.Asked,
@@ -588,7 +588,7 @@ on-array-open-returns-5 : (t : ℕ) → on-array-open-lts.Need-returns-5 (
   on-inline-table-open-below t,
   on-inline-table-open.Post,
 ) (on-array-open-at t) on-array-open.Post on-array-open-Inv-loop on-array-open-μ-loop
-on-array-open-returns-5 t c = nested-as (open-array ((c .before .before .before .before .before .before .before .before .before .before .before .before .before .before .before .before .before .before .before .before .before .before .before .before .before .before .before .before .before .before .before .args) .settings .levels) _ _ _ ((c .before .before .before .before .before .before .before .before .before .before .before .before .before .before .before .before .before .before .before .before .before .before .before .before .before .before .if1) .left)) (nested-item _ _ (λ all. (c .before .before .before .before .before .before .before .before .before .before .before .before .before .before .before .before .before .before .before .before .before .before .before .before .array-open) .ensures all _) (stack-table-stop ((c .before .before .before .before .before .before .before .before .before .before .before .before .before .before .before .before .before .before .before .before .before .loop) .inv .0) _ ((c .before .before .before .before .before .before .before .before .before .before .before .before .before .before .before .before .before .before .array-turns) .ensures) _ ((c .before .before .before .before .before .before .before .before .before .x2) .given .1) ((c .before .before .before .before .before .on-inline-table-open) .ensures) ((c .if6) .taken)))
+on-array-open-returns-5 t c = nested-as (open-array ((c .before .before .before .before .before .before .before .before .before .before .before .before .before .before .before .before .before .before .before .before .before .before .before .before .before .before .before .before .before .before .before .before .before .args) .settings .levels) _ _ _ ((c .before .before .before .before .before .before .before .before .before .before .before .before .before .before .before .before .before .before .before .before .before .before .before .before .before .before .before .if1) .left)) (nested-item _ _ (λ all. (c .before .before .before .before .before .before .before .before .before .before .before .before .before .before .before .before .before .before .before .before .before .before .before .before .before .array-open) .ensures all _) (stack-table-stop ((c .before .before .before .before .before .before .before .before .before .before .before .before .before .before .before .before .before .before .before .before .before .loop) .inv .0) _ ((c .before .before .before .before .before .before .before .before .before .before .before .before .before .before .before .before .before .before .array-turns) .ensures) _ ((c .before .before .before .before .before .before .before .before .before .x2) .given .1) ((c .before .before .before .before .before .on-inline-table-open) .ensures) ((c .if6) .taken)))
 
 on-array-open-loop-less-5 : (t : ℕ) → on-array-open-lts.Need-loop-less-5 (
   array-open-reads.Asked,
@@ -664,7 +664,7 @@ on-inline-table-open-action-table-requires : (t : ℕ) → on-inline-table-open-
 ) (on-inline-table-open-at t) on-inline-table-open.Post on-inline-table-open-Inv-loop on-inline-table-open-μ-loop
 on-inline-table-open-action-table-requires t c κs = search needs
 
-on-inline-table-open-sub-t36 : (t : ℕ) → on-inline-table-open-lts.Need-sub-t36 (
+on-inline-table-open-sub-t34 : (t : ℕ) → on-inline-table-open-lts.Need-sub-t34 (
   table-open-reads.Asked,
   table-open-reads.Learnt,
   action-table-reads.Asked,
@@ -676,7 +676,7 @@ on-inline-table-open-sub-t36 : (t : ℕ) → on-inline-table-open-lts.Need-sub-t
   on-inline-table-open-below t,
   on-inline-table-open.Post,
 ) (on-inline-table-open-at t) on-inline-table-open.Post on-inline-table-open-Inv-loop on-inline-table-open-μ-loop
-on-inline-table-open-sub-t36 t c = omega (arith, (c .before .before .before .before .before .if1) .left)
+on-inline-table-open-sub-t34 t c = omega (arith, (c .before .before .before .before .before .if1) .left)
 
 on-inline-table-open-loop-holds : (t : ℕ) → on-inline-table-open-lts.Need-loop-holds (
   table-open-reads.Asked,
@@ -1031,10 +1031,10 @@ pub +on-array-open+on-inline-table-open-spec : {M : Type 1} → statement M
     (on-array-open-returns-2 t)
     (on-array-open-sub-depth t)
     (on-array-open-add-left t)
-    (on-array-open-mul-t44 t)
-    (on-array-open-array-read-t47 t)
-    (on-array-open-mul-t48 t)
-    (on-array-open-array-read-t51 t)
+    (on-array-open-mul-inner t)
+    (on-array-open-array-read-inner t)
+    (on-array-open-mul-inner-2 t)
+    (on-array-open-array-read-inner-2 t)
     (on-array-open-loop-less-2 t)
     (on-array-open-loop-again-2 t)
     (on-array-open-enum-known-x t)
@@ -1082,7 +1082,7 @@ pub +on-array-open+on-inline-table-open-spec : {M : Type 1} → statement M
     (on-inline-table-open-returns t)
     (on-inline-table-open-table-open-requires t)
     (on-inline-table-open-action-table-requires t)
-    (on-inline-table-open-sub-t36 t)
+    (on-inline-table-open-sub-t34 t)
     (on-inline-table-open-loop-holds t)
     (on-inline-table-open-inline-table-turn-requires t)
     (on-inline-table-open-enum-told t)
