@@ -10,7 +10,7 @@ use token::cursor::Token;
 ghost use Rattle.token.specs.Tokens.{Good};
 ghost use Rattle.rules.specs.Out.{span};
 ghost use Rattle.output.specs.Pour.{bufs};
-ghost use Rattle.nest.specs.Ran.{Ran};
+ghost use Rattle.array_runs.specs.Ran.{Ran};
 
 pub fn array_turns(
     s: &[u8],

@@ -15,8 +15,8 @@ use Rattle.output.specs.TurnLaws.{Turns, fewer-left}
 use Rattle.array_parts.specs.declared.turn.Next.{Next}
 use Rattle.array_turns.specs.declared.array.ArrayTurn.{ArrayTurn}
 use Rattle.array_parts.specs.Turning.{Further, Wants, Turned}
-use Rattle.nest.specs.Ran.{Enough, Ran}
-use Rattle.nest.proofs.NestLaws.{turned, turn-next}
+use Rattle.array_runs.specs.Ran.{Enough, Ran}
+use Rattle.array_runs.specs.TurnedLaws.{turned, turn-next}
 
 -- the loop's turns so far
 pub record Running (s : List ℕ) (head : Place) (w₀ : ArrayState) (c : Cursor) (o₀ : Bufs) (w : ArrayState) (o : Bufs) (cur : Cursor) : Type 0 where

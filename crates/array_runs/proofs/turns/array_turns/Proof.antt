@@ -7,10 +7,10 @@ use lib.ListN.{length}
 use Rattle.token.specs.Records.{count}
 use Rattle.rules.specs.Out.{span}
 use Rattle.output.specs.Pour.{bufs}
-use Rattle.nest.proofs.RunLaws.{Running, running-begun, running-next, ran, again-moved}
+use Rattle.array_runs.proofs.RunLaws.{Running, running-begun, running-next, ran, again-moved}
 use borrow.Author.Needs.{needs}
-use Rattle.nest.proofs.turns.array_turns.Statement.{statement}
-use Rattle.nest.proofs.turns.array_turns.Tie as tie
+use Rattle.array_runs.proofs.turns.array_turns.Statement.{statement}
+use Rattle.array_runs.proofs.turns.array_turns.Tie as tie
 
 abbrev Inv-loop : tie.InvT-loop
 Inv-loop s head events₀ errors₀ cur₀ n₀ state₀ events errors cur n state =
