@@ -16,10 +16,10 @@ use entries::entries::parse_value;
 use exports::answer::ExportedAnswer;
 use exports::answer::exported;
 use exports::options::ExportedOptions;
-use structs::Token;
+use struct_records::Token;
 use structs::parse_tokens;
 ghost use Rattle.rules.specs.Entries.{documentEntry, keyEntry, simpleKeyEntry, valueEntry};
-ghost use Rattle.structs.specs.Structs.{recordsOf};
+ghost use Rattle.struct_records.specs.Structs.{recordsOf};
 ghost use Rattle.exports.specs.Exported.{Exports};
 
 #[no_mangle]

@@ -1,5 +1,2 @@
-pub mod StructLaws
-pub mod Again
 pub mod OwnArray
 pub mod BigConstant
-pub mod KeptLaws

@@ -2,8 +2,8 @@
 -- Made by ./proofs from Proof.tmpl: change that.
 use mathlib.Core.Path.{sym, _∙_}
 use borrow.Author.Needs.{needs}
-use Rattle.structs.proofs.too_many.Statement.{statement}
-use Rattle.structs.proofs.too_many.Tie as tie
+use Rattle.struct_records.proofs.too_many.Statement.{statement}
+use Rattle.struct_records.proofs.too_many.Tie as tie
 
 choose-requires : tie.Need-choose-requires
 choose-requires c κs = search needs

@@ -5,9 +5,9 @@ use Prim.Native.Nat.{ℕ, _<_, _^_}
 use lib.ListN.{length}
 use Rattle.token.specs.Records.{lengthAt, kindNumberAt}
 use Rattle.token.specs.ReadingLaws.{first-length, first-kind, length-behind, kind-behind}
-use Rattle.structs.specs.declared.Token.{Token}
-use Rattle.structs.specs.Structs.{recordsOf, KindsAndLengthsKept}
-use Rattle.structs.proofs.StructLaws.{length-records}
+use Rattle.struct_records.specs.declared.Token.{Token}
+use Rattle.struct_records.specs.Structs.{recordsOf, KindsAndLengthsKept}
+use Rattle.struct_records.proofs.StructLaws.{length-records}
 
 lengths-kept : (before : List Token) (t : Token) (behind : List Token) → t .length < 2 ^ 32 → lengthAt (recordsOf (before ++ (t ∷ behind))) (length before) ≡ t .length
 unfolding recordsOf

@@ -49,21 +49,21 @@ use denote.Triple.Clauses.{ensured, lasts}
 use denote.Triple.Table.{entered, cited}
 use denote.Triple.Walked.{says, needs, Stays, stay-none-slice, stay-slice, walkOf, Walks, ends-at, walked, goes-none-slice, goes-slice, walk-meets}
 use Rattle.token.specs.Writing.{putAt}
-use Rattle.structs.specs.Structs.{recordsOf}
-use Rattle.structs.specs.declared.Token.{Token}
-use Rattle.structs.proofs.StructLaws.{none, Copied, copy-step, copy-done}
-use Rattle.structs.proofs.Token as T
-use Rattle.structs.proofs.Token.Laws as T′
-use Rattle.structs.proofs.Again.{LentAgain, lends-again, comes-back}
-use Rattle.structs.proofs.put as put
-use Rattle.structs.proofs.put.Symbol as put-def
-use Rattle.structs.proofs.put.Symbol.{name as #structs·put}
-use Rattle.structs.proofs.put.Met as put-thm
-use Rattle.structs.proofs.copy.Key.{name as #structs·copy}
-use Rattle.structs.proofs.copy as copy
-use Rattle.structs.proofs.copy.Statement as stated
-use Rattle.structs.proofs.copy.Code as code
-use Rattle.structs.proofs.copy.Code.Mir as piece
+use Rattle.struct_records.specs.Structs.{recordsOf}
+use Rattle.struct_records.specs.declared.Token.{Token}
+use Rattle.struct_records.proofs.StructLaws.{none, Copied, copy-step, copy-done}
+use Rattle.struct_records.proofs.Token as T
+use Rattle.struct_records.proofs.Token.Laws as T′
+use Rattle.struct_records.proofs.Again.{LentAgain, lends-again, comes-back}
+use Rattle.struct_records.proofs.put as put
+use Rattle.struct_records.proofs.put.Symbol as put-def
+use Rattle.struct_records.proofs.put.Symbol.{name as #struct-records·put}
+use Rattle.struct_records.proofs.put.Met as put-thm
+use Rattle.struct_records.proofs.copy.Key.{name as #struct-records·copy}
+use Rattle.struct_records.proofs.copy as copy
+use Rattle.struct_records.proofs.copy.Statement as stated
+use Rattle.struct_records.proofs.copy.Code as code
+use Rattle.struct_records.proofs.copy.Code.Mir as piece
 
 abbrev S1 : Ty
 S1 = sliceTy (tyRef (named 0) imm (pointee (T.the-row .written)))
@@ -152,7 +152,7 @@ module _ {M : Type 1} (𝓤 : URA M) (H : Heap 𝓤) (A : Atoms 𝓤) (W : Given
   Nearer-wf : WellFounded Nearer
   Nearer-wf = InvImage·wf (λ (t : State). n - t .0) (Nat·lt-wfRel .wf)
 
-  module _ (𝓣 : Tables 𝓤 H) (known : Triple 𝓤 (𝓣 .C #structs·put) (Put 𝓤 H A mem run)) (gn : Room T.the-row n) (gm : Room u8 m) (roomy : 6 * n ≤ m) where
+  module _ (𝓣 : Tables 𝓤 H) (known : Triple 𝓤 (𝓣 .C #struct-records·put) (Put 𝓤 H A mem run)) (gn : Room T.the-row n) (gm : Room u8 m) (roomy : 6 * n ≤ m) where
     abbrev C : Calls 𝓤 H
     C = 𝓣 .C
 
@@ -276,12 +276,12 @@ module _ {M : Type 1} (𝓤 : URA M) (H : Heap 𝓤) (A : Atoms 𝓤) (W : Given
         first ! $ blocks ! $ loops ! 𝓣 Nearer Nearer-wf (At l₀ l₁ l₂ l₃ l₄ l₅ l₆ l₇ l₈ l₉ l₁₀ l₁₁) (turns l₀ l₁ l₂ l₃ l₄ l₅ l₆ l₇ l₈ l₉ l₁₀ l₁₁) (0, (xs, (zero-le, (refl, refl))))))))))))))))
 
 module _ {M : Type 1} (𝓤 : URA M) (H : Heap 𝓤) (A : Atoms 𝓤) (W : Given 𝓤 H A) (mem : Memory → SProp 𝓤) (run : Routine → Fun 𝓤) where
-  copy-walks : (𝓣 : Tables 𝓤 H) → Triple 𝓤 (𝓣 .C #structs·put) (Put 𝓤 H A mem run) → Walks 𝓤 H A copy.ended stayed (WpFn 𝓤 H (𝓣 .C) (𝓣 .Λ) code.function) (copy.clauses 𝓤 H A mem run)
+  copy-walks : (𝓣 : Tables 𝓤 H) → Triple 𝓤 (𝓣 .C #struct-records·put) (Put 𝓤 H A mem run) → Walks 𝓤 H A copy.ended stayed (WpFn 𝓤 H (𝓣 .C) (𝓣 .Λ) code.function) (copy.clauses 𝓤 H A mem run)
   copy-walks 𝓣 known = walked 𝓤 H A copy.ended stayed (copy.clauses 𝓤 H A mem run) (WpFn 𝓤 H (𝓣 .C) (𝓣 .Λ) code.function) (λ κs. (slice-vals, (slice-vals, tt))) (λ κs. (shr-slice-tells (named 0) (κs .0) T.the-row, (mut-slice-tells (named 1) (κs .1 .0) u8, tt)))
       (λ κs qs bounds a g are. needs 𝓤 _ _
       (λ roomy. walk 𝓤 H A W mem run (κs .0) (κs .1 .0) (qs .0) (qs .1 .0) (a .0 .ptr .0) (a .0 .ptr .1) (a .0 .name) (a .0 .now) (a .1 .0 .ptr .0) (a .1 .0 .ptr .1) (a .1 .0 .name) (a .1 .0 .now) 𝓣 known (are .0 .0 .1) (are .1 .0 .0 .1) roomy))
 
-copy-meets : {M : Type 1} (𝓤 : URA M) (H : Heap 𝓤) (A : Atoms 𝓤) → Given 𝓤 H A → (mem : Memory → SProp 𝓤) (run : Routine → Fun 𝓤) (𝓣 : Tables 𝓤 H) → Triple 𝓤 (𝓣 .C #structs·put) (Put 𝓤 H A mem run)
+copy-meets : {M : Type 1} (𝓤 : URA M) (H : Heap 𝓤) (A : Atoms 𝓤) → Given 𝓤 H A → (mem : Memory → SProp 𝓤) (run : Routine → Fun 𝓤) (𝓣 : Tables 𝓤 H) → Triple 𝓤 (𝓣 .C #struct-records·put) (Put 𝓤 H A mem run)
     → Meets 𝓤 H A copy.signature (WpFn 𝓤 H (𝓣 .C) (𝓣 .Λ) code.function) (copy.spec 𝓤 H A mem run)
 copy-meets 𝓤 H A W mem run 𝓣 known =
     walk-meets 𝓤 H A copy.ended stayed W (goes-none-slice 𝓤 H A W 2 (0 ∷ []) tt (plain (λ _. T.the-row)) yes, (goes-slice 𝓤 H A W 2 1 tt (plain (λ _. u8)), tt)) (copy.clauses 𝓤 H A mem run)
@@ -291,6 +291,6 @@ pub copy-spec : {M : Type 1} → stated.statement M
 unfolding code.routine tablesOf
 copy-spec 𝓤 H 𝓜 𝓖 𝓡 =
     entered 𝓤 H (tripleOf 𝓤 H (𝓖 .A) copy.signature (copy.spec 𝓤 H (𝓖 .A) (𝓜 .mem) (𝓡 .run)))
-    (tables 𝓤 H 𝓜 𝓡 code.env .C) (tables 𝓤 H 𝓜 𝓡 code.env .Λ) #structs·copy code.function (code.unfolded 𝓤 H 𝓜 𝓡)
+    (tables 𝓤 H 𝓜 𝓡 code.env .C) (tables 𝓤 H 𝓜 𝓡 code.env .Λ) #struct-records·copy code.function (code.unfolded 𝓤 H 𝓜 𝓡)
     (copy-meets 𝓤 H (𝓖 .A) (givenOf 𝓤 H 𝓜 𝓖) (𝓜 .mem) (𝓡 .run) (tablesOf 𝓤 H 𝓜 (tables 𝓤 H 𝓜 𝓡 code.env))
-    (cited 𝓤 H (Put 𝓤 H (𝓖 .A) (𝓜 .mem) (𝓡 .run)) 𝓜 𝓡 code.env #structs·put put-def.routine code.calls-structs·put (put-thm.met 𝓤 H 𝓜 𝓖 𝓡)))
+    (cited 𝓤 H (Put 𝓤 H (𝓖 .A) (𝓜 .mem) (𝓡 .run)) 𝓜 𝓡 code.env #struct-records·put put-def.routine code.calls-struct-records·put (put-thm.met 𝓤 H 𝓜 𝓖 𝓡)))

@@ -9,7 +9,7 @@ use Rattle.choices.specs.Modes.{chosenBy, unknownMode}
 use Rattle.token.specs.Limits.{maxRecords}
 use Rattle.token.specs.Records.{lengthAt, kindNumberAt}
 use Rattle.token.specs.Writing.{recordOf}
-use Rattle.structs.specs.declared.Token.{Token}
+use Rattle.struct_records.specs.declared.Token.{Token}
 
 -- the records of a list of structs, one after the other: of each its length and its kind
 unfoldable pub recordsOf : List Token → List ℕ

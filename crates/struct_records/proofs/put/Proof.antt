@@ -3,8 +3,8 @@
 use native.Mathlib.Omega.{arith}
 use Rattle.token.specs.WritingLaws.{put-length}
 use borrow.Author.Needs.{needs}
-use Rattle.structs.proofs.put.Statement.{statement}
-use Rattle.structs.proofs.put.Tie as tie
+use Rattle.struct_records.proofs.put.Statement.{statement}
+use Rattle.struct_records.proofs.put.Tie as tie
 
 cast-put-record : tie.Need-cast-put-record
 cast-put-record c = search needs

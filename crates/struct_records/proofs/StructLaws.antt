@@ -20,8 +20,8 @@ use Rattle.rules.specs.declared.answer.Answer.{Answer}
 use Rattle.rules.specs.Answer.{outcome}
 use Rattle.choices.specs.declared.modes.Chosen.{Chosen}
 use Rattle.choices.specs.Modes.{chosenBy, outcomeOf, AnswersIn}
-use Rattle.structs.specs.declared.Token.{Token}
-use Rattle.structs.specs.Structs.{recordsOf, tooManyBy, tooMany}
+use Rattle.struct_records.specs.declared.Token.{Token}
+use Rattle.struct_records.specs.Structs.{recordsOf, tooManyBy, tooMany}
 
 -- what stands for an element beyond the end
 abbrev pub none : Token
