@@ -1,12 +1,14 @@
 // The lines of a listing, written to standard output.
-use crate::naming::print_name;
+use event_names::print_name;
+use rules::answer::Answer;
 use rules::answer::ERROR_WORDS;
 use rules::answer::EVENT_WORDS;
 ghost use mathlib.Core.Path.{_≡_};
 ghost use Prim.Native.Nat.{_+_, _*_, _≤_};
 ghost use lib.ListN.{getD, length};
 ghost use Rattle.rules.specs.Answer.{errorSize, eventSize};
-ghost use Rattle.listing.specs.Named.{AllNamed, Named};
+ghost use Rattle.event_names.specs.Numbers.{Named};
+ghost use Rattle.listing_lines.specs.Printable.{AllNamed, Printable};
 
 // A space and the number n.
 fn print_number(n: u32) {
@@ -15,7 +17,7 @@ fn print_number(n: u32) {
 }
 
 // Refusal 7, no room for the events, never comes here.
-pub fn print_refusal(refusal: u32, place: usize)
+fn print_refusal(refusal: u32, place: usize)
     requires { ⌜ (refusal ≡ 7 → ⊥) ⌝ }
 {
     io::write_all(1, b"refused ");
@@ -25,7 +27,7 @@ pub fn print_refusal(refusal: u32, place: usize)
     io::write_all(1, b"\n");
 }
 
-pub fn print_head(events: usize, errors: usize) {
+fn print_head(events: usize, errors: usize) {
     io::write_all(1, b"events ");
     io::print_decimal(1, events as u64);
     io::write_all(1, b" errors ");
@@ -66,7 +68,7 @@ fn print_error(words: &[u32], at: usize)
 }
 
 // The first `count` events.
-pub fn print_events(words: &[u32], count: usize)
+fn print_events(words: &[u32], count: usize)
     requires { ⌜ eventSize * count ≤ length (now words) ⌝ }
     requires { ⌜ AllNamed (now words) count ⌝ }
 {
@@ -78,7 +80,7 @@ pub fn print_events(words: &[u32], count: usize)
 }
 
 // The first `count` errors.
-pub fn print_errors(words: &[u32], count: usize)
+fn print_errors(words: &[u32], count: usize)
     requires { ⌜ errorSize * count ≤ length (now words) ⌝ }
 {
     let mut i: usize = 0;
@@ -86,4 +88,20 @@ pub fn print_errors(words: &[u32], count: usize)
         print_error(words, ERROR_WORDS * i);
         i = i + 1;
     }
+}
+
+// An answer and what the buffers hold after it: a refusal is one line, else all events and then all errors are.
+pub fn print_outcome(answer: Answer, events: &[u32], errors: &[u32])
+    requires { ⌜ Printable (now events) (now errors) answer ⌝ }
+{
+    let refusal = answer.refusal;
+    if refusal != 0 {
+        print_refusal(refusal, answer.place);
+        return;
+    }
+    let event_count = answer.events;
+    let error_count = answer.errors;
+    print_head(event_count, error_count);
+    print_events(events, event_count);
+    print_errors(errors, error_count);
 }

@@ -3,8 +3,8 @@
 use Prim.Native.Nat.{_-_}
 use lib.ListN.{length}
 use borrow.Author.Needs.{needs}
-use Rattle.vectors.proofs.comparing.holds.Statement.{statement}
-use Rattle.vectors.proofs.comparing.holds.Tie as tie
+use Rattle.vector_files.proofs.comparing.holds.Statement.{statement}
+use Rattle.vector_files.proofs.comparing.holds.Tie as tie
 
 abbrev Inv-loop : tie.InvT-loop
 Inv-loop buffer wanted i₀ i = Unit {0}

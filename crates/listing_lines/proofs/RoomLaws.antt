@@ -1,5 +1,5 @@
 -- An answer that is no refusal has counts within the room, so each counted entry stands whole in its buffer, and each event there has
--- the number of an event kind. The events of 512 records always fit. Assumes nothing.
+-- the number of an event kind. The events of 512 records always fit. Proved; nothing here needs to be believed.
 use mathlib.Core.Path.{_≡_, refl, sym, subst}
 use mathlib.Core.Bool.{Bool, true, false}
 use mathlib.Core.List.{List, [], _∷_}
@@ -24,10 +24,10 @@ use Rattle.rules.specs.Answer.{eventSize, errorSize, Outcome, filled, refusalBy
 use Rattle.bounds.specs.Most.{mostEvents}
 use Rattle.bounds.specs.Bounds.{more-events}
 use Rattle.bounds.specs.CountLaws.{room-events}
-use Rattle.entry_steps.specs.Answers.{Answers}
 use Rattle.rules.proofs.BufferLaws.{word-in}
 use Rattle.rules.proofs.OutcomeLaws.{events-sized}
-use Rattle.listing.specs.Named.{Named, AllNamed}
+use Rattle.event_names.specs.Numbers.{Named}
+use Rattle.listing_lines.specs.Printable.{AllNamed, Printable}
 
 -- the first word of each event in the rules' list
 event-named : (g : Event) → Named (eventNumber g)
@@ -90,16 +90,24 @@ outcome-fits : (options : Options) (entry : Entry) (s : List ℕ) (base : ℕ) (
 unfolding outcome
 outcome-fits options entry s base events errors = by-check (checked s base) options entry s base events errors
 
+-- the answer and the buffers that the document entry leaves
+abbrev Left : Options → List ℕ → ℕ → List ℕ → List ℕ → List ℕ → List ℕ → Answer → Type 0
+Left options s base events errors a b r = record { answer = r; events = a; errors = b } ≡ outcome options documentEntry s base events errors
+
 -- so each counted entry lies within the buffer that the entry left, and each event there is named
-pub within : (options : Options) (entry : Entry) (s : List ℕ) (base : ℕ) (events errors a b : List ℕ) (r : Answer) → Answers options entry s base events errors a b r
+within : (options : Options) (s : List ℕ) (base : ℕ) (events errors a b : List ℕ) (r : Answer) → Left options s base events errors a b r
     → length a ≡ length events → length b ≡ length errors → r .refusal ≡ 0 → (eventSize * r .events ≤ length a) × (errorSize * r .errors ≤ length b) × AllNamed a (r .events)
-within options entry s base events errors a b r e l m q =
-    let f = subst (Fits (length events / eventSize) (length errors / errorSize)) (sym e) (outcome-fits options entry s base events errors) q in
+within options s base events errors a b r e l m q =
+    let f = subst (Fits (length events / eventSize) (length errors / errorSize)) (sym e) (outcome-fits options documentEntry s base events errors) q in
     (omega (arith, f .0, l), omega (arith, f .1, m), f .2)
 
 -- 512 records have at most 1,533 events, so with room for 1,600 refusal 7 does not come
-pub never-seven : (options : Options) (s : List ℕ) (base : ℕ) (events errors a b : List ℕ) (r : Answer) → Answers options documentEntry s base events errors a b r → length s ≤ 3072 → length events ≡ 6400 → r .refusal ≡ 7 → ⊥
+never-seven : (options : Options) (s : List ℕ) (base : ℕ) (events errors a b : List ℕ) (r : Answer) → Left options s base events errors a b r → length s ≤ 3072 → length events ≡ 6400 → r .refusal ≡ 7 → ⊥
 never-seven options s base events errors a b r e short room =
     let few : count s ≤ 512 = omega (arith, short) in
     let most : mostEvents documentEntry 512 ≤ length events / eventSize = omega (arith, room) in
     subst (λ (o : Outcome). o .answer .refusal ≡ 7 → ⊥) (sym e) (room-events options documentEntry s base events errors (le-trans (more-events (count s) 512 few) most))
+
+pub printable : (options : Options) (s : List ℕ) (base : ℕ) (events errors a b : List ℕ) (r : Answer) → Left options s base events errors a b r
+    → length a ≡ length events → length b ≡ length errors → length s ≤ 3072 → length events ≡ 6400 → Printable a b r
+printable options s base events errors a b r e l m short room = record { roomy = never-seven options s base events errors a b r e short room; within = within options s base events errors a b r e l m }

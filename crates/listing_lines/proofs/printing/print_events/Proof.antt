@@ -1,9 +1,10 @@
--- Each entry lies within the words: i is below the count.
+-- Each event lies within the words and is named: i is below the count.
 -- Made by ./proofs from Proof.tmpl: change that.
+use native.Mathlib.Omega.{arith}
 use Prim.Native.Nat.{_-_}
 use borrow.Author.Needs.{needs}
-use Rattle.listing.proofs.printing.print_errors.Statement.{statement}
-use Rattle.listing.proofs.printing.print_errors.Tie as tie
+use Rattle.listing_lines.proofs.printing.print_events.Statement.{statement}
+use Rattle.listing_lines.proofs.printing.print_events.Tie as tie
 
 abbrev Inv-loop : tie.InvT-loop
 Inv-loop words count i₀ i = Unit
@@ -14,11 +15,11 @@ abbrev μ-loop : tie.MeasureT-loop
 loop-holds : tie.Need-loop-holds Inv-loop μ-loop
 loop-holds c = search needs
 
-mul-print-error : tie.Need-mul-print-error Inv-loop μ-loop
-mul-print-error c = search needs
+mul-print-event : tie.Need-mul-print-event Inv-loop μ-loop
+mul-print-event c = search needs
 
-print-error-requires : tie.Need-print-error-requires Inv-loop μ-loop
-print-error-requires c κs = search needs
+print-event-requires : tie.Need-print-event-requires Inv-loop μ-loop
+print-event-requires c κs = (omega (arith, (c .before .before .before .pre) .0), (c .before .before .before .pre) .1 _ ((c .loop-test) .taken))
 
 add-i : tie.Need-add-i Inv-loop μ-loop
 add-i c = search needs
@@ -32,15 +33,15 @@ loop-again c = search needs
 returns : tie.Need-returns Inv-loop μ-loop
 returns c = search needs
 
-pub print-errors-spec : {M : Type 1} → statement M
-print-errors-spec =
+pub print-events-spec : {M : Type 1} → statement M
+print-events-spec =
     tie.close
     (tie.spec
     Inv-loop
     μ-loop
     loop-holds
-    mul-print-error
-    print-error-requires
+    mul-print-event
+    print-event-requires
     add-i
     loop-less
     loop-again

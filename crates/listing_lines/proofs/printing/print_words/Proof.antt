@@ -2,8 +2,8 @@
 -- Made by ./proofs from Proof.tmpl: change that.
 use Prim.Native.Nat.{_-_}
 use borrow.Author.Needs.{needs}
-use Rattle.listing.proofs.printing.print_words.Statement.{statement}
-use Rattle.listing.proofs.printing.print_words.Tie as tie
+use Rattle.listing_lines.proofs.printing.print_words.Statement.{statement}
+use Rattle.listing_lines.proofs.printing.print_words.Tie as tie
 
 abbrev Inv-loop : tie.InvT-loop
 Inv-loop words at count i₀ i = Unit
