@@ -2,8 +2,8 @@
 -- Made by ./proofs from Proof.tmpl: change that.
 use mathlib.Core.Path.{refl}
 use borrow.Author.Needs.{needs}
-use Rattle.token.proofs.kind.in_search.Statement.{statement}
-use Rattle.token.proofs.kind.in_search.Tie as tie
+use Rattle.backward_search.proofs.in_search.Statement.{statement}
+use Rattle.backward_search.proofs.in_search.Tie as tie
 
 enum-told : tie.Need-enum-told
 enum-told c = search needs

@@ -2,8 +2,8 @@
 -- Made by ./proofs from Proof.tmpl: change that.
 use mathlib.Core.Path.{refl, sym}
 use borrow.Author.Needs.{needs}
-use Rattle.token.proofs.cursor.is_sought.Statement.{statement}
-use Rattle.token.proofs.cursor.is_sought.Tie as tie
+use Rattle.backward_search.proofs.is_sought.Statement.{statement}
+use Rattle.backward_search.proofs.is_sought.Tie as tie
 
 in-search-requires : tie.Need-in-search-requires
 in-search-requires c κs = search needs
