@@ -1,2 +1,3 @@
+pub mod NumberCalls
 pub mod OwnArray
 pub mod BigConstant
