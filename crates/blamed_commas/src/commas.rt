@@ -1,9 +1,9 @@
 // The last comma before a place of the list, found by looking back; what an earlier search has found is not looked at again.
+use backward_search::in_search;
 use line_points::points::LinePoint;
 use line_points::points::newlines;
 use token::kind::InSearch;
 use token::kind::Kind;
-use token::kind::in_search;
 use token::record::kind_at;
 use token::record::length_at;
 ghost use mathlib.Core.Path.{_≡_};

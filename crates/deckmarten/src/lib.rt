@@ -16,10 +16,10 @@ use entries::entries::parse_value;
 use export_answers::answer::ExportedAnswer;
 use export_answers::answer::exported;
 use export_answers::options::ExportedOptions;
-use structs::Token;
+use struct_records::Token;
 use structs::parse_tokens;
 ghost use Rattle.rules.specs.Entries.{documentEntry, keyEntry, simpleKeyEntry, valueEntry};
-ghost use Rattle.structs.specs.Structs.{recordsOf};
+ghost use Rattle.struct_records.specs.Structs.{recordsOf};
 ghost use Rattle.export_answers.specs.Exported.{Exports};
 
 #[no_mangle]

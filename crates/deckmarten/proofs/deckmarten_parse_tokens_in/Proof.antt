@@ -41,10 +41,10 @@ use Rattle.rules.specs.Entries.{documentEntry}
 use Rattle.rules.proofs.answer.Answer as R
 use Rattle.rules.proofs.answer.Answer.Laws as R′
 use Rattle.choices.specs.Modes.{AnswersIn}
-use Rattle.structs.specs.Structs.{recordsOf}
-use Rattle.structs.specs.declared.Token.{Token}
-use Rattle.structs.proofs.Again.{slice}
-use Rattle.structs.proofs.Token as T
+use Rattle.struct_records.specs.Structs.{recordsOf}
+use Rattle.struct_records.specs.declared.Token.{Token}
+use Rattle.struct_records.proofs.Again.{slice}
+use Rattle.struct_records.proofs.Token as T
 use Rattle.structs.proofs.parse_tokens as parse-tokens
 use Rattle.structs.proofs.parse_tokens.Symbol as parse-tokens-def
 use Rattle.structs.proofs.parse_tokens.Symbol.{name as #structs·parse-tokens}
