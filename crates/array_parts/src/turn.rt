@@ -1,4 +1,5 @@
 // One turn in an array or an inline table: what is to be done after it.
+use backward_search::nearest_before;
 use output::emitting::Counts;
 use output::emitting::Walk;
 use output::emitting::emit;
@@ -81,7 +82,7 @@ pub fn unclosed(
     requires { ⌜ tokensAt (now s) c ≡ [] ⌝ }
     ensures { λ r. ⌜ ((base : ℕ) → c .base ≡ base → bufs (now (events .exit)) (now (errors .exit)) r ≡ pour (allTokens (now (s .entry)) base) (unclosedItems message expected (span (head .start) (head .end))) (bufs (now (events .entry)) (now (errors .entry)) m)) ⌝ }
 {
-    let last = c.nearest_before(s, Sought::Significant, Span { start: 0, end: 0 }, 0);
+    let last = nearest_before(c, s, Sought::Significant, Span { start: 0, end: 0 }, 0);
     let i = report(
         errors,
         m,

@@ -1,14 +1,14 @@
 // The index of headers for programs in C and Rust: written from a quiet run's events, and read again.
-use exports::answer::ExportedAnswer;
-use exports::answer::taken;
-use exports::indexes::ExportedHeader;
-use exports::indexes::ExportedIndexed;
-use exports::indexes::exported_header;
-use exports::indexes::exported_indexed;
+use export_answers::answer::ExportedAnswer;
+use export_answers::answer::taken;
+use export_indexes::indexes::ExportedHeader;
+use export_indexes::indexes::ExportedIndexed;
+use export_indexes::indexes::exported_header;
+use export_indexes::indexes::exported_indexed;
 use index::index as index_of;
 use index_entries::reading::header_at;
-ghost use Rattle.exports.specs.Exported.{plain};
-ghost use Rattle.exports.specs.ExportedIndexes.{ExportsIndex, ExportsHeader};
+ghost use Rattle.export_answers.specs.Exported.{plain};
+ghost use Rattle.export_indexes.specs.ExportedIndexes.{ExportsIndex, ExportsHeader};
 
 #[no_mangle]
 pub extern "C" fn deckmarten_index(

@@ -1,8 +1,8 @@
 // The yes for programs in C and Rust: whether a run was quiet, whether a list is regular, and whether a list fits.
-use exports::answer::ExportedAnswer;
-use exports::answer::taken;
-use exports::judgements::ExportedVerdict;
-use exports::judgements::exported_verdict;
+use export_answers::answer::ExportedAnswer;
+use export_answers::answer::taken;
+use export_texts::judgements::ExportedVerdict;
+use export_texts::judgements::exported_verdict;
 use quiet::run::is_quiet;
 use regular::is_regular;
 use verdicts::verdict::fits;
@@ -12,8 +12,8 @@ ghost use mathlib.Core.Logic.{_↔_};
 ghost use Rattle.token.specs.Tokens.{allTokens};
 ghost use Rattle.fitting.specs.Premises.{Regular};
 ghost use Rattle.quiet.specs.Runs.{QuietAnswer};
-ghost use Rattle.exports.specs.Exported.{plain};
-ghost use Rattle.exports.specs.ExportedVerdicts.{ExportsVerdict};
+ghost use Rattle.export_answers.specs.Exported.{plain};
+ghost use Rattle.export_texts.specs.ExportedVerdicts.{ExportsVerdict};
 
 #[no_mangle]
 pub extern "C" fn deckmarten_is_quiet(answer: ExportedAnswer, events: &[u32]) -> bool

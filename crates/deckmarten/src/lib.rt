@@ -13,14 +13,14 @@ use entries::entries::parse_document;
 use entries::entries::parse_key;
 use entries::entries::parse_simple_key;
 use entries::entries::parse_value;
-use exports::answer::ExportedAnswer;
-use exports::answer::exported;
-use exports::options::ExportedOptions;
-use structs::Token;
+use export_answers::answer::ExportedAnswer;
+use export_answers::answer::exported;
+use export_answers::options::ExportedOptions;
+use struct_records::Token;
 use structs::parse_tokens;
 ghost use Rattle.rules.specs.Entries.{documentEntry, keyEntry, simpleKeyEntry, valueEntry};
-ghost use Rattle.structs.specs.Structs.{recordsOf};
-ghost use Rattle.exports.specs.Exported.{Exports};
+ghost use Rattle.struct_records.specs.Structs.{recordsOf};
+ghost use Rattle.export_answers.specs.Exported.{Exports};
 
 #[no_mangle]
 pub extern "C" fn deckmarten_parse_document(

@@ -1,14 +1,14 @@
 // The list of mistakes for programs in C and Rust: of a run, and of a text by one call.
-use exports::answer::ExportedAnswer;
-use exports::answer::taken;
-use exports::listings::ExportedCheck;
-use exports::listings::ExportedListed;
-use exports::listings::exported_check;
-use exports::listings::exported_listed;
+use export_answers::answer::ExportedAnswer;
+use export_answers::answer::taken;
+use export_listings::listings::ExportedCheck;
+use export_listings::listings::ExportedListed;
+use export_listings::listings::exported_check;
+use export_listings::listings::exported_listed;
 use mistakes::mistakes as mistakes_of_run;
 use text_mistakes::check_text;
-ghost use Rattle.exports.specs.Exported.{plain};
-ghost use Rattle.exports.specs.ExportedMistakes.{ExportsListing, ExportsCheck};
+ghost use Rattle.export_answers.specs.Exported.{plain};
+ghost use Rattle.export_listings.specs.ExportedMistakes.{ExportsListing, ExportsCheck};
 
 #[no_mangle]
 pub extern "C" fn deckmarten_mistakes(

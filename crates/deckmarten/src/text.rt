@@ -1,18 +1,18 @@
 // Text in, for programs in C and Rust: the lexer by itself, the joined entry, and the yes of a text.
 use choices::modes::Chosen;
 use choices::modes::choose;
-use exports::judgements::ExportedVerdict;
-use exports::judgements::exported_verdict;
-use exports::options::ExportedOptions;
-use exports::text::ExportedLexed;
-use exports::text::ExportedTextAnswer;
-use exports::text::exported_lexed;
-use exports::text::exported_text;
-use exports::text::exported_unknown;
+use export_answers::options::ExportedOptions;
+use export_texts::judgements::ExportedVerdict;
+use export_texts::judgements::exported_verdict;
+use export_texts::text::ExportedLexed;
+use export_texts::text::ExportedTextAnswer;
+use export_texts::text::exported_lexed;
+use export_texts::text::exported_text;
+use export_texts::text::exported_unknown;
 use lex::lex;
 use texts::entry::parse_text;
 use texts::verdict::text_fits;
-ghost use Rattle.exports.specs.ExportedTexts.{ExportsLexed, ExportsText, ExportsTextVerdict};
+ghost use Rattle.export_texts.specs.ExportedTexts.{ExportsLexed, ExportsText, ExportsTextVerdict};
 
 #[no_mangle]
 pub extern "C" fn deckmarten_lex(text: &[u8], records: &mut [u8]) -> ExportedLexed

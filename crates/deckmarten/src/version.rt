@@ -1,7 +1,7 @@
 // Which version of the library an archive holds, so that a program can hold it to the header that it was compiled with.
-use exports::version::this_version;
+use export_answers::version::this_version;
 ghost use mathlib.Core.Path.{_≡_};
-ghost use Rattle.exports.specs.Version.{version};
+ghost use Rattle.export_answers.specs.Version.{version};
 
 #[no_mangle]
 pub extern "C" fn deckmarten_version() -> u32

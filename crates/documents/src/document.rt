@@ -1,10 +1,10 @@
 // The document loop.
 use classes::document::in_document;
+use expression_keys::on_expression_dot;
+use expression_keys::on_expression_key;
 use expression_strays::strays::on_missing_expression_key;
 use expression_strays::strays::on_missing_std_table;
 use expressions::expression::key_and_value;
-use expressions::expression::on_expression_dot;
-use expressions::expression::on_expression_key;
 use nest::nest::NestWalk;
 use nest::nest::unstopped;
 use output::emitting::Counts;

@@ -16,7 +16,7 @@ use Rattle.token.specs.Tokens.{Tok}
 use Rattle.rules.specs.declared.options.Mode.{Mode}
 use Rattle.rules.specs.Answer.{errorSize, filled}
 use Rattle.rules.specs.Lines.{lineOf}
-use Rattle.output.specs.Pour.{putError, more}
+use Rattle.buffer_puts.specs.Puts.{putError, more}
 use Rattle.line_numbers.specs.Numbering.{placed, placedAt, spanned, numberedAt, numberedOne, numberedFirst, stored, numbered}
 use Rattle.filling.specs.FillLaws.{Sized, length-filled, more-fits, more-left-out}
 

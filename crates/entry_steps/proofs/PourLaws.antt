@@ -20,8 +20,9 @@ use Rattle.rules.specs.Messages as message
 use Rattle.rules.specs.Expected as expected
 use Rattle.rules.specs.Words.{eventWords, errorWords, eventsOf, errorsOf, lookedUp, spanOf, firstSought, commaBetween, blamed, Halt, ended, refusedLevel, haltOf}
 use Rattle.rules.specs.Answer.{eventSize, errorSize, filled}
-use Rattle.output.specs.Pour.{Bufs, bufs, put, putEvent, putError, more, capped, Unexpected, known, sought, putBy, withEvent, withError, pour}
-use Rattle.output.specs.CapLaws.{capped-known}
+use Rattle.buffer_puts.specs.Puts.{putEvent, putError, more, capped}
+use Rattle.output.specs.Pour.{Bufs, bufs, put, Unexpected, known, sought, putBy, withEvent, withError, pour}
+use Rattle.buffer_puts.specs.CapLaws.{capped-known}
 use Rattle.line_numbers.specs.Numbering.{placed, numberedFirst, numbered}
 use Rattle.filling.specs.FillLaws.{Sized, sized-more, stored, filled-none}
 use Rattle.entry_steps.proofs.NumberLaws.{put-error-more}

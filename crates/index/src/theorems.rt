@@ -1,5 +1,5 @@
 // What the definitions amount to, each as the contract of a function that does nothing.
-use fitting::theorems::quiet_events_determine_tokens;
+use fitting_theorems::theorems::quiet_events_determine_tokens;
 use rules::answer::Answer;
 ghost use Rattle.token.specs.Tokens.{allTokens};
 ghost use Rattle.fitting.specs.Quiet.{QuietRun};

@@ -1,6 +1,6 @@
 -- Turns in inline tables, a token at a time. Assumes nothing.
 use mathlib.Core.Path.{_≡_, refl, ap, sym, subst, _∙_}
-use mathlib.Core.List.{List}
+use mathlib.Core.List.{List, [], _∷_, _++_}
 use Prim.Native.Nat.{ℕ, suc, _-_, _≤_}
 use native.Mathlib.Omega.{arith}
 use lib.ListN.{length}
@@ -16,11 +16,11 @@ use Rattle.rules.specs.declared.inline_table.Action.{Action}
 use Rattle.rules.specs.declared.inline_table.Action.the-variants as A
 use Rattle.rules.specs.declared.inline_table.State.{State}
 use Rattle.rules.specs.declared.inline_table.Progress.{Progress}
-use Rattle.rules.specs.Out.{Place, Out}
+use Rattle.rules.specs.Out.{Place, Item, Out, done, _▹_, _▸_}
 use Rattle.rules.specs.Scalar.{startingOf}
 use Rattle.rules.specs.Array.{Nest}
 use Rattle.rules.specs.InlineTable.{actionOf, inlineTableStep, inlineTableTurn}
-use Rattle.output.specs.Pour.{Bufs}
+use Rattle.output.specs.Pour.{Bufs, pour}
 use Rattle.output.specs.Walks.{run}
 use Rattle.output.specs.WalkLaws.{at-token}
 use Rattle.scalars.specs.ScalarWalks.{Starts}
@@ -78,9 +78,13 @@ opened-left s base opened h = omega (arith, h, all-length s base)
 pub brace-left : {s : List ℕ} {c d : Cursor} {t : Token} (base : ℕ) → Took s c t d → c .at ≡ length (allTokens s base) - suc (length (tokensAt s d))
 brace-left {s} {d = d} base k = omega (arith, k .left, k .on, all-length s base, left-length s d)
 
--- an answer that is made by functions
+-- the end of the table: what is said of its `}`, and its close
+pub closes : (all : List Tok) (is : List Item) (i : Item) (ts : List Tok) (o o₁ : Bufs) → o₁ ≡ pour all (is ++ (i ∷ [])) o → run all (is ▸ (i ▹ done ts)) o ≡ run all (done ts) o₁
+unfolding run
+closes all is i ts o o₁ p = ap (λ (b : Bufs). record { out = b; rest = ts }) (sym p)
+
+-- an answer that is made by a function
 module _ {s : List ℕ} {c : Cursor} {o : Bufs} {a b : List ℕ} where
-  pub table-as : {rule : Nest → (Progress → List Tok → Out) → Out} {r : TableTurn} {t t' : Turn} {p : Progress} → r ≡ record { turn = t; progress = p } → t ≡ t' → Turned Progress s rule c o a b (t' .cur) (t' .n) p (t' .next)
+  pub table-as : {rule : Nest → (Progress → List Tok → Out) → Out} {r : TableTurn} {t : Turn} {p : Progress} → r ≡ record { turn = t; progress = p } → Turned Progress s rule c o a b (t .cur) (t .n) p (t .next)
       → Turned Progress s rule c o a b (r .turn .cur) (r .turn .n) (r .progress) (r .turn .next)
-  table-as {rule} {p = p} e f x =
-      subst (λ (z : TableTurn). Turned Progress s rule c o a b (z .turn .cur) (z .turn .n) (z .progress) (z .turn .next)) (sym (e ∙ ap (λ (t : Turn). record { turn = t; progress = p }) f)) x
+  table-as {rule} e x = subst (λ (z : TableTurn). Turned Progress s rule c o a b (z .turn .cur) (z .turn .n) (z .progress) (z .turn .next)) (sym e) x

@@ -1,34 +1,34 @@
 // Inline tables: one turn.
 use crate::table_turn::TableTurn;
+use crate::table_turn::ended;
+use crate::table_turn::opens;
 use crate::table_turn::read;
+use crate::table_turn::read_walk;
 use crate::table_turn::unread;
+use crate::table_turn::unread_walk;
 use array_parts::brackets::without_open;
 use array_parts::turn::Next;
-use array_parts::turn::again;
-use array_parts::turn::opening;
-use array_parts::turn::over;
 use array_parts::turn::unclosed;
 use inline_actions::action_at;
 use inline_parts::parts::missing;
 use inline_parts::parts::refuse;
-use inline_parts::parts::table_dot;
-use inline_parts::parts::table_key;
-use inline_parts::parts::trailing_comma;
+use inline_steps::close;
+use inline_steps::comment;
+use inline_steps::dot_without_comma;
+use inline_steps::eof;
+use inline_steps::equals_without_key;
+use inline_steps::key_without_comma;
+use inline_steps::keyless_array;
+use inline_steps::keyless_table;
+use inline_steps::newline;
+use inline_steps::unassigned_scalar;
 use output::emitting::Counts;
-use output::emitting::Walk;
 use output::emitting::emit;
-use output::emitting::empty_key;
-use output::emitting::report_at;
 use output::expected::CLOSE_CURLY;
-use output::expected::NOTHING;
-use output::message::COMMENT_IN_INLINE_TABLE;
 use output::message::EXTRA_ASSIGNMENT;
 use output::message::EXTRA_COMMA_IN_INLINE_TABLE;
 use output::message::INVALID_INLINE_TABLE_ELEMENT;
 use output::message::MISSING_ASSIGNMENT;
-use output::message::MISSING_COMMA_IN_INLINE_TABLE;
-use output::message::MISSING_KEY_IN_INLINE_TABLE;
-use output::message::NEWLINE_IN_INLINE_TABLE;
 use output::message::UNCLOSED_INLINE_TABLE;
 use rules::event::Event;
 use rules::inline_table::Action;
@@ -36,8 +36,8 @@ use rules::inline_table::Progress;
 use rules::inline_table::State;
 use rules::skipping::Bracket;
 use scalars::scalar::on_scalar;
-use skip_brackets::brackets::ignore_to_value_close;
-use skip_lines::skipping::on_comment;
+use table_keys::table_dot;
+use table_keys::table_key;
 use token::cursor::Cursor;
 use token::cursor::Step;
 use token::cursor::Token;
@@ -79,7 +79,7 @@ pub fn inline_table_turn(
             events,
             errors,
         );
-        return unread(over(Walk { cur: c, n }), p);
+        return ended(c, n, p);
     };
     let k = t.kind;
     let state = p.state;
@@ -87,22 +87,19 @@ pub fn inline_table_turn(
     match action {
         Action::Whitespace => {
             let n = emit(events, m, Event::Whitespace, t.start, t.end);
-            unread(again(Walk { cur: past, n }), p)
+            unread(past, n, p)
         }
         Action::Comment => {
-            let h = report_at(errors, m, COMMENT_IN_INLINE_TABLE, NOTHING, head, t);
-            let w = on_comment(s, t, past, h, events, errors);
-            unread(again(w), p)
+            let w = comment(s, head, t, past, m, events, errors);
+            unread_walk(w, p)
         }
         Action::Newline => {
-            let i = report_at(errors, m, NEWLINE_IN_INLINE_TABLE, NOTHING, head, t);
-            let n = emit(events, i, Event::Newline, t.start, t.end);
-            unread(again(Walk { cur: past, n }), p)
+            let n = newline(head, t, m, events, errors);
+            unread(past, n, p)
         }
         Action::Eof => {
-            let i = report_at(errors, m, UNCLOSED_INLINE_TABLE, CLOSE_CURLY, head, t);
-            let n = emit(events, i, Event::InlineTableClose, t.start, t.start);
-            unread(over(Walk { cur: past, n }), p)
+            let n = eof(head, t, m, events, errors);
+            ended(past, n, p)
         }
         Action::ValueSep => {
             let n = emit(events, m, Event::ValueSep, t.start, t.end);
@@ -111,97 +108,77 @@ pub fn inline_table_turn(
                 state: State::NeedsKey,
                 empty,
             };
-            unread(again(Walk { cur: past, n }), q)
+            unread(past, n, q)
         }
         Action::ExtraComma => {
             let n = refuse(m, EXTRA_COMMA_IN_INLINE_TABLE, p, head, t, events, errors);
-            unread(again(Walk { cur: past, n }), p)
+            unread(past, n, p)
         }
         Action::EmptyKey => {
-            let i = empty_key(events, m, t.start);
-            let n = emit(events, i, Event::KeyValSep, t.start, t.end);
-            read(again(Walk { cur: past, n }), State::NeedsValue)
+            let n = equals_without_key(t, m, events);
+            read(past, n, State::NeedsValue)
         }
         Action::KeyValSep => {
             let n = emit(events, m, Event::KeyValSep, t.start, t.end);
-            read(again(Walk { cur: past, n }), State::NeedsValue)
+            read(past, n, State::NeedsValue)
         }
         Action::ExtraAssignment => {
             let n = refuse(m, EXTRA_ASSIGNMENT, p, head, t, events, errors);
-            unread(again(Walk { cur: past, n }), p)
+            unread(past, n, p)
         }
         Action::KeylessArray => {
-            let h = refuse(m, MISSING_KEY_IN_INLINE_TABLE, p, head, t, events, errors);
-            let w = ignore_to_value_close(s, past, h, Bracket::Square, events, errors);
-            unread(again(w), p)
+            let w = keyless_array(s, head, t, past, m, p, events, errors);
+            unread_walk(w, p)
         }
         Action::KeylessTable => {
-            let h = refuse(m, MISSING_KEY_IN_INLINE_TABLE, p, head, t, events, errors);
-            let w = ignore_to_value_close(s, past, h, Bracket::Curly, events, errors);
-            unread(again(w), p)
+            let w = keyless_table(s, head, t, past, m, p, events, errors);
+            unread_walk(w, p)
         }
         Action::UnassignedArray => {
             let n = missing(m, MISSING_ASSIGNMENT, p, head, t, errors);
-            read(
-                opening(Walk { cur: past, n }, Next::OpenArray(t)),
-                State::NeedsComma,
-            )
+            opens(past, n, Next::OpenArray(t), State::NeedsComma)
         }
         Action::UnassignedTable => {
             let n = missing(m, MISSING_ASSIGNMENT, p, head, t, errors);
-            read(
-                opening(Walk { cur: past, n }, Next::OpenTable(t)),
-                State::NeedsComma,
-            )
+            opens(past, n, Next::OpenTable(t), State::NeedsComma)
         }
         Action::UnassignedScalar => {
-            let h = missing(m, MISSING_ASSIGNMENT, p, head, t, errors);
-            let w = on_scalar(s, t, past, h, events, errors);
-            read(again(w), State::NeedsComma)
+            let w = unassigned_scalar(s, head, t, past, m, p, events, errors);
+            read_walk(w, State::NeedsComma)
         }
-        Action::Array => read(
-            opening(Walk { cur: past, n: m }, Next::OpenArray(t)),
-            State::NeedsComma,
-        ),
-        Action::Table => read(
-            opening(Walk { cur: past, n: m }, Next::OpenTable(t)),
-            State::NeedsComma,
-        ),
+        Action::Array => opens(past, m, Next::OpenArray(t), State::NeedsComma),
+        Action::Table => opens(past, m, Next::OpenTable(t), State::NeedsComma),
         Action::Scalar => {
             let w = on_scalar(s, t, past, m, events, errors);
-            read(again(w), State::NeedsComma)
+            read_walk(w, State::NeedsComma)
         }
         Action::Close => {
-            let at = c.at;
-            let i = trailing_comma(at, opened, m, p, head, t, errors);
-            let n = emit(events, i, Event::InlineTableClose, t.start, t.end);
-            unread(over(Walk { cur: past, n }), p)
+            let n = close(c, opened, head, t, m, p, events, errors);
+            ended(past, n, p)
         }
         Action::InvalidElement => {
             let n = refuse(m, INVALID_INLINE_TABLE_ELEMENT, p, head, t, events, errors);
-            unread(again(Walk { cur: past, n }), p)
+            unread(past, n, p)
         }
         Action::ArrayWithoutOpen => {
             let n = without_open(m, Bracket::Square, t, events, errors);
-            read(again(Walk { cur: past, n }), State::NeedsComma)
+            read(past, n, State::NeedsComma)
         }
         Action::Key => {
             let w = table_key(s, t, past, m, events, errors);
-            read(again(w), State::NeedsEquals)
+            read_walk(w, State::NeedsEquals)
         }
         Action::DotKey => {
             let w = table_dot(s, t, past, m, events, errors);
-            read(again(w), State::NeedsEquals)
+            read_walk(w, State::NeedsEquals)
         }
         Action::KeyWithoutComma => {
-            let h = missing(m, MISSING_COMMA_IN_INLINE_TABLE, p, head, t, errors);
-            let w = table_key(s, t, past, h, events, errors);
-            read(again(w), State::NeedsEquals)
+            let w = key_without_comma(s, head, t, past, m, p, events, errors);
+            read_walk(w, State::NeedsEquals)
         }
         Action::DotKeyWithoutComma => {
-            let h = missing(m, MISSING_COMMA_IN_INLINE_TABLE, p, head, t, errors);
-            let w = table_dot(s, t, past, h, events, errors);
-            read(again(w), State::NeedsEquals)
+            let w = dot_without_comma(s, head, t, past, m, p, events, errors);
+            read_walk(w, State::NeedsEquals)
         }
     }
 }

@@ -1,5 +1,5 @@
 // What the contracts amount to, each as the contract of a function that does nothing.
-use fitting::theorems::fits_then_quiet;
+use fitting_theorems::theorems::fits_then_quiet;
 ghost use Prim.Native.Nat.{ℕ};
 ghost use mathlib.Core.List.{List};
 ghost use Rattle.judging.specs.declared.verdict.Verdict.{Verdict};

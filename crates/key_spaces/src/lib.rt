@@ -1,4 +1,5 @@
 // What stands before and behind the parts of a key: optional whitespace; and the report where the list ends.
+use backward_search::nearest_before;
 use output::emitting::Counts;
 use output::emitting::Walk;
 use output::emitting::emit;
@@ -49,7 +50,7 @@ pub fn nothing_left(
     requires { ⌜ tokensAt (now s) c ≡ [] ⌝ }
     ensures { λ r. ⌜ ((base : ℕ) (events : List ℕ) → c .base ≡ base → bufs events (now (errors .exit)) r ≡ put (allTokens (now (s .entry)) base) (nothingLeft message expected) (bufs events (now (errors .entry)) m)) ⌝ }
 {
-    let last = c.nearest_before(s, Sought::Significant, Span { start: 0, end: 0 }, 0);
+    let last = nearest_before(c, s, Sought::Significant, Span { start: 0, end: 0 }, 0);
     report(
         errors,
         m,

@@ -10,7 +10,7 @@ use borrow.Author.Tests.{lt-ltb, le-ltb, ltb-true, ltb-false}
 use Rattle.token.specs.Limits.{maxEnd}
 use Rattle.token.specs.Tokens.{Tok}
 use Rattle.token.specs.Writing.{recordsOf}
-use Rattle.utf8.specs.Utf8.{validUpTo}
+use Rattle.utf8_sequences.specs.Utf8.{validUpTo}
 use Rattle.scan.specs.Lexer.{tokensFrom, tokensOf, baseOf}
 use Rattle.scan.specs.LexerLaws.{lexer-some}
 use Rattle.lex.specs.Refusals.{textTooLong, notUtf8, noRoomForTokens}

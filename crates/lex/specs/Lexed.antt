@@ -6,7 +6,7 @@ use lib.ListN.{length, drop}
 use lib.Dec.{ltb}
 use Rattle.token.specs.Limits.{maxEnd}
 use Rattle.token.specs.Writing.{recordsOf}
-use Rattle.utf8.specs.Utf8.{validUpTo}
+use Rattle.utf8_sequences.specs.Utf8.{validUpTo}
 use Rattle.scan.specs.Lexer.{tokensOf, baseOf}
 use Rattle.lex.specs.declared.Lexed.{Lexed}
 use Rattle.lex.specs.Refusals.{textTooLong, notUtf8, noRoomForTokens}

@@ -5,7 +5,7 @@ use Prim.Native.Nat.{ℕ}
 use lib.ListN.{length}
 use Rattle.token.specs.declared.kind.Kind.the-variants.{Dot, Equals, Comma, LeftSquareBracket, RightSquareBracket, LeftCurlyBracket, RightCurlyBracket, Whitespace, Comment, Newline, LiteralString, BasicString, MlLiteralString, MlBasicString, Atom, Eof}
 use Rattle.token.specs.Tokens.{Tok, tok}
-use Rattle.utf8.specs.Utf8.{validUpTo}
+use Rattle.utf8_sequences.specs.Utf8.{validUpTo}
 use Rattle.scan.specs.Lexer.{tokensOf, baseOf}
 
 -- the bytes, where the tokens start, and the tokens

@@ -16,15 +16,15 @@ use Rattle.rules.specs.declared.options.Mode.{Mode}
 use Rattle.rules.specs.Answer.{errorSize}
 use Rattle.rules.specs.Lines.{lineOf}
 use Rattle.rules.specs.Words.{firstSought, commaBetween}
-use Rattle.line_numbers.specs.declared.points.LinePoint.{LinePoint}
+use Rattle.line_points.specs.declared.points.LinePoint.{LinePoint}
 use Rattle.line_numbers.specs.declared.numbering.Placed.{Placed}
-use Rattle.line_numbers.specs.declared.commas.Comma.{Comma}
-use Rattle.line_numbers.specs.Points.{Begins, Counted, Numbered, Reached}
-use Rattle.line_numbers.specs.Commas.{commaSince, Known}
+use Rattle.blamed_commas.specs.declared.commas.Comma.{Comma}
+use Rattle.line_points.specs.Points.{Begins, Counted, Numbered, Reached}
+use Rattle.blamed_commas.specs.Commas.{commaSince, Known}
 use Rattle.line_numbers.specs.Placing.{Places}
 use Rattle.line_numbers.specs.Numbering.{placed, placedAt, spanned, numberedAt, numberedFirst}
-use Rattle.line_numbers.specs.PointLaws.{counted-begun}
-use Rattle.line_numbers.specs.CommaLaws.{none-known}
+use Rattle.line_points.specs.PointLaws.{counted-begun}
+use Rattle.blamed_commas.specs.CommaLaws.{none-known}
 
 -- by the mark
 module _ (s : List ℕ) (base : ℕ) (mode : Mode) (start end mark : ℕ) where

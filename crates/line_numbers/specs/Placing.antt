@@ -6,8 +6,8 @@ use Rattle.token.specs.Tokens.{allTokens}
 use Rattle.rules.specs.declared.options.Mode.{Mode}
 use Rattle.rules.specs.Lines.{lineOf}
 use Rattle.line_numbers.specs.declared.numbering.Placed.{Placed}
-use Rattle.line_numbers.specs.Points.{Counted}
-use Rattle.line_numbers.specs.Commas.{Known}
+use Rattle.line_points.specs.Points.{Counted}
+use Rattle.blamed_commas.specs.Commas.{Known}
 use Rattle.line_numbers.specs.Numbering.{placed}
 
 -- the span and the line of the error whose last three words were left so, with a counted point and a comma that is known

@@ -1,4 +1,2 @@
 // What is found of the errors when the walk is over: the line of each, and the comma that the report of a trailing comma is about.
-pub mod commas;
 pub mod numbering;
-pub mod points;

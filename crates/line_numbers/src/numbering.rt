@@ -1,12 +1,12 @@
 // What the walk left open of each error: the line of its unexpected start, and of a trailing comma where the comma is. One pass over the errors when
 // the walk is over, so that no walk counts lines or looks for commas.
-use crate::commas::Comma;
-use crate::commas::comma_from;
-use crate::commas::no_comma;
-use crate::points::LinePoint;
-use crate::points::first_line;
-use crate::points::line_from;
-use crate::points::point_from;
+use blamed_commas::commas::Comma;
+use blamed_commas::commas::comma_from;
+use blamed_commas::commas::no_comma;
+use line_points::points::LinePoint;
+use line_points::points::first_line;
+use line_points::points::line_from;
+use line_points::points::point_from;
 use rules::answer::ERROR_WORDS;
 use rules::options::Mode;
 ghost use mathlib.Core.Path.{_≡_};
@@ -19,8 +19,8 @@ ghost use Rattle.token.specs.Tokens.{allTokens};
 ghost use Rattle.rules.specs.Answer.{errorSize};
 ghost use Rattle.rules.specs.Words.{firstSought};
 ghost use Rattle.line_numbers.specs.Numbering.{numbered, numberedFirst};
-ghost use Rattle.line_numbers.specs.Points.{Counted};
-ghost use Rattle.line_numbers.specs.Commas.{Known};
+ghost use Rattle.line_points.specs.Points.{Counted};
+ghost use Rattle.blamed_commas.specs.Commas.{Known};
 ghost use Rattle.line_numbers.specs.Placing.{Places};
 
 // The unexpected span of an error and its line; and the point and the comma that were found with them, from which the next error's are found. Along

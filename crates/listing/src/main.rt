@@ -1,14 +1,8 @@
 // The listing program: reads token records from standard input and prints what the document entry gives for them at base 0, an
 // event or an error a line. More than 3,072 bytes print `input too long`, a refusal prints `refused N place P`. Input that cannot be read to
 // its end is a line on standard error, and standard output stays empty.
-mod naming;
-mod printing;
-
-use crate::printing::print_errors;
-use crate::printing::print_events;
-use crate::printing::print_head;
-use crate::printing::print_refusal;
 use entries::entries::parse_document;
+use listing_lines::printing::print_outcome;
 use rules::answer::ERROR_WORDS;
 use rules::answer::EVENT_WORDS;
 use rules::options::Mode;
@@ -32,16 +26,7 @@ fn list(s: &[u8])
     let mut errors = [0u32; ERROR_ROOM];
     let options = Options { mode: Mode::Crate };
     let answer = parse_document(s, 0, options, &mut events, &mut errors);
-    let refusal = answer.refusal;
-    if refusal != 0 {
-        print_refusal(refusal, answer.place);
-        return;
-    }
-    let event_count = answer.events;
-    let error_count = answer.errors;
-    print_head(event_count, error_count);
-    print_events(&events, event_count);
-    print_errors(&errors, error_count);
+    print_outcome(answer, &events, &errors);
 }
 
 // Whether standard input has come to its end. `read_full` stops there, and where a read fails: only one more read, which gives nothing and does not

@@ -9,8 +9,8 @@ use lib.ListN.{length}
 use Rattle.token.specs.Tokens.{Tok, allTokens}
 use Rattle.rules.specs.Lines.{lineOf}
 use Rattle.rules.specs.Answer.{errorSize, filled}
-use Rattle.line_numbers.specs.declared.points.LinePoint.{LinePoint}
-use Rattle.line_numbers.specs.Points.{Counted, Numbered}
+use Rattle.line_points.specs.declared.points.LinePoint.{LinePoint}
+use Rattle.line_points.specs.Points.{Counted, Numbered}
 use Rattle.filling.specs.FillLaws.{Sized}
 use Rattle.pieces.specs.declared.pieces.Piece.{Piece}
 use Rattle.pieces.specs.declared.pieces.Found.{Found}

@@ -3,7 +3,7 @@ use Prim.Native.Nat.{ℕ, _+_, _≤_}
 use mathlib.Core.Path.{_≡_}
 use mathlib.Core.List.{List}
 use Rattle.token.specs.Tokens.{allTokens}
-use Rattle.line_numbers.specs.Points.{Counted}
+use Rattle.line_points.specs.Points.{Counted}
 use Rattle.pieces.specs.declared.pieces.Piece.{Piece}
 use Rattle.mistakes.specs.declared.listing.Noted.{Noted}
 use Rattle.mistake_rules.specs.Mistakes.{Mistake, judged, allWords}

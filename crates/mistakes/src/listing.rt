@@ -1,7 +1,7 @@
 // The listing: piece by piece, with the error records that go before each.
-use line_numbers::points::LinePoint;
-use line_numbers::points::first_line;
-use line_numbers::points::line_from;
+use line_points::points::LinePoint;
+use line_points::points::first_line;
+use line_points::points::line_from;
 use mistake_steps::putting::put_mistake;
 use mistake_steps::putting::put_records;
 use mistake_steps::records::is_accounted;
@@ -18,7 +18,7 @@ ghost use Rattle.token.specs.Records.{count, startAt};
 ghost use Rattle.token.specs.Tokens.{allTokens};
 ghost use Rattle.token.specs.Laid.{Laid};
 ghost use Rattle.rules.specs.Answer.{eventSize, errorSize, filled};
-ghost use Rattle.line_numbers.specs.Points.{Counted};
+ghost use Rattle.line_points.specs.Points.{Counted};
 ghost use Rattle.mistake_rules.specs.Mistakes.{mistakesIn, allWords};
 ghost use Rattle.mistake_rules.specs.Sheets.{Sheet};
 ghost use Rattle.mistake_steps.specs.Steps.{countless};

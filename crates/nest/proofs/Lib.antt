@@ -1,3 +1,2 @@
 pub mod NestLaws
-pub mod RunLaws
 pub mod StackLaws

@@ -1,5 +1,5 @@
 -- Arrays and inline tables that open one another: a loop of turns, for any rule of a turn. Assumes nothing.
-use mathlib.Core.Path.{_≡_, refl, ap, sym, subst, _∙_}
+use mathlib.Core.Path.{_≡_, refl, ap, sym, _∙_}
 use mathlib.Core.Bool.{true, false, false≢true}
 use mathlib.Core.List.{List, []}
 use Prim.Native.Nat.{ℕ, zero, suc, _+_, _-_, _≤_}
@@ -21,18 +21,13 @@ use Rattle.rules.specs.Nest.{onOpen}
 use Rattle.output.specs.declared.emitting.Counts.{Counts}
 use Rattle.output.specs.Pour.{Bufs, bufs, refused, put}
 use Rattle.output.specs.Walks.{run}
-use Rattle.output.specs.TurnLaws.{Turns, onward, turn-same, fewer-left}
+use Rattle.output.specs.TurnLaws.{Turns, onward, fewer-left}
 use Rattle.array_parts.specs.declared.turn.Next.{Next}
+use Rattle.array_parts.specs.Turning.{Turned}
+use Rattle.array_runs.specs.TurnedLaws.{turned, moved}
 use Rattle.nest.specs.declared.nest.NestWalk.{NestWalk}
-use Rattle.array_parts.specs.Turning.{goOn, Further, Turned}
 use Rattle.nest.specs.Nested.{Nested}
 use Rattle.nest.specs.NestedLaws.{nested-stop, nested-done, then-nested, nested-from}
-
-further : (x : Next) (c d : Cursor) → Further x c d → c .at ≤ d .at
-further Next.Again c d h = omega arith
-further Next.Over c d h = h
-further (Next.OpenArray t) c d h = omega arith
-further (Next.OpenTable t) c d h = omega arith
 
 module _ {S : Type 0} (nest : Nest) (turn : Nest → (S → List Tok → Out) → S → List Tok → Out) (still : (f g : S → List Tok → Out) (w : S) → turn nest f w [] ≡ turn nest g w [])
     {s : List ℕ} {start : Out} {o o₀ : Bufs} {cur cur₀ : Cursor} (w : S) (inv : Turns s (λ k. turns (turn nest) k w (tokensAt s cur)) start o o₀ cur cur₀)
@@ -43,26 +38,9 @@ module _ {S : Type 0} (nest : Nest) (turn : Nest → (S → List Tok → Out) �
   abbrev Rest : List Tok → Out
   Rest = onward (turn nest) still w inv w'
 
-  -- what is next gives what the loop gives from its start
-  pub turned : (y : Next) → x ≡ y → run All (goOn y nest (onward (turn nest) still w inv) w' (tokensAt s d)) (bufs a b n) ≡ run All start o₀
-  turned y e =
-      ap (λ (z : Next). run All (goOn z nest (onward (turn nest) still w inv) w' (tokensAt s d)) (bufs a b n)) (sym e)
-      ∙ (sym (t .is (cur₀ .base) (inv .base) nest (onward (turn nest) still w inv)) ∙ turn-same (turn nest) still w inv)
-
-  moved : (y : Next) → x ≡ y → Further y cur d
-  moved y e = subst (λ (z : Next). Further z cur d) e (t .on)
-
-  pub turn-moved : x ≡ Next.Again → cur .at + 1 ≤ d .at
-  turn-moved e = moved Next.Again e
-
-  -- another turn
-  pub turn-next : x ≡ Next.Again → Turns s (λ k. turns (turn nest) k w' (tokensAt s d)) start (bufs a b n) o₀ d cur₀
-  turn-next e =
-      record { fuel = inv .fuel - 1; enough = fewer-left (turn nest) still w inv d (moved Next.Again e) (t .good); same = turned Next.Again e; good = t .good; on = omega (arith, moved Next.Again e, inv .on); base = t .base ∙ inv .base }
-
   -- the end
   pub turn-over : x ≡ Next.Over → Nested s start cur₀ o₀ a b (record { cur = d; n = n; stopped = false })
-  turn-over e = nested-from (turned Next.Over e) (omega (arith, moved Next.Over e, inv .on)) (t .base ∙ inv .base) (nested-done d a b n (t .good))
+  turn-over e = nested-from (turned nest turn still w inv w' t Next.Over e) (omega (arith, moved nest turn still w inv w' t Next.Over e, inv .on)) (t .base ∙ inv .base) (nested-done d a b n (t .good))
 
   -- a bracket was opened, and its walk was refused or not
   module _ {a' b' : List ℕ} {v : NestWalk} (g : Out) (q : run All (g then Rest) (bufs a b n) ≡ run All start o₀) (h : cur .at + 1 ≤ d .at) (y : Nested s g d (bufs a b n) a' b' v) where
@@ -74,23 +52,23 @@ module _ {S : Type 0} (nest : Nest) (turn : Nest → (S → List Tok → Out) �
     opened-stop e = nested-from q (omega (arith, h, inv .on)) (t .base ∙ inv .base) (nested-stop Rest y e)
 
   pub array-moved : (u : Token) → x ≡ Next.OpenArray u → cur .at + 1 ≤ d .at
-  array-moved u e = moved (Next.OpenArray u) e
+  array-moved u e = moved nest turn still w inv w' t (Next.OpenArray u) e
 
   pub table-moved : (u : Token) → x ≡ Next.OpenTable u → cur .at + 1 ≤ d .at
-  table-moved u e = moved (Next.OpenTable u) e
+  table-moved u e = moved nest turn still w inv w' t (Next.OpenTable u) e
 
   module _ (u : Token) {a' b' : List ℕ} {v : NestWalk} where
     pub array-again : x ≡ Next.OpenArray u → Nested s (nest Bracket.Square (u .start) (u .end) (tokensAt s d)) d (bufs a b n) a' b' v → v .stopped ≡ false → Turns s (λ k. turns (turn nest) k w' (tokensAt s (v .cur))) start (bufs a' b' (v .n)) o₀ (v .cur) cur₀
-    array-again e y f = opened-again (nest Bracket.Square (u .start) (u .end) (tokensAt s d)) (turned (Next.OpenArray u) e) (array-moved u e) y f
+    array-again e y f = opened-again (nest Bracket.Square (u .start) (u .end) (tokensAt s d)) (turned nest turn still w inv w' t (Next.OpenArray u) e) (array-moved u e) y f
 
     pub array-stop : x ≡ Next.OpenArray u → Nested s (nest Bracket.Square (u .start) (u .end) (tokensAt s d)) d (bufs a b n) a' b' v → v .stopped ≡ true → Nested s start cur₀ o₀ a' b' v
-    array-stop e y f = opened-stop (nest Bracket.Square (u .start) (u .end) (tokensAt s d)) (turned (Next.OpenArray u) e) (array-moved u e) y f
+    array-stop e y f = opened-stop (nest Bracket.Square (u .start) (u .end) (tokensAt s d)) (turned nest turn still w inv w' t (Next.OpenArray u) e) (array-moved u e) y f
 
     pub table-again : x ≡ Next.OpenTable u → Nested s (nest Bracket.Curly (u .start) (u .end) (tokensAt s d)) d (bufs a b n) a' b' v → v .stopped ≡ false → Turns s (λ k. turns (turn nest) k w' (tokensAt s (v .cur))) start (bufs a' b' (v .n)) o₀ (v .cur) cur₀
-    table-again e y f = opened-again (nest Bracket.Curly (u .start) (u .end) (tokensAt s d)) (turned (Next.OpenTable u) e) (table-moved u e) y f
+    table-again e y f = opened-again (nest Bracket.Curly (u .start) (u .end) (tokensAt s d)) (turned nest turn still w inv w' t (Next.OpenTable u) e) (table-moved u e) y f
 
     pub table-stop : x ≡ Next.OpenTable u → Nested s (nest Bracket.Curly (u .start) (u .end) (tokensAt s d)) d (bufs a b n) a' b' v → v .stopped ≡ true → Nested s start cur₀ o₀ a' b' v
-    table-stop e y f = opened-stop (nest Bracket.Curly (u .start) (u .end) (tokensAt s d)) (turned (Next.OpenTable u) e) (table-moved u e) y f
+    table-stop e y f = opened-stop (nest Bracket.Curly (u .start) (u .end) (tokensAt s d)) (turned nest turn still w inv w' t (Next.OpenTable u) e) (table-moved u e) y f
 
 -- the rules' openings where a level is left, and where none is
 pub open-array : (levels a b : ℕ) (ts : List Tok) → (levels ≡ 0 → ⊥) → (receiver.arrayOpen a b ▹ looping (arrayTurn (span a b) (onOpen (levels - 1))) ArrayState.NeedsValue ts) ≡ onOpen levels Bracket.Square a b ts

@@ -26,7 +26,7 @@ use Rattle.array_parts.specs.Turning.{goOn, Further, Wants}
 use Rattle.nest.specs.declared.nest.NestWalk.{NestWalk}
 use Rattle.nest.specs.Nested.{Nested}
 use Rattle.nest.specs.NestedLaws.{nested-stop, nested-done, then-nested, nested-from}
-use Rattle.nest.specs.Ran.{Enough, Left, Ran}
+use Rattle.array_runs.specs.Ran.{Enough, Left, Ran}
 use Rattle.nest.proofs.NestLaws.{open-array, no-level}
 
 -- an array that waits: where it was opened, the turns still allowed, and the levels allowed in it
@@ -50,8 +50,8 @@ abbrev pub Held : List Frame → List ℕ → List ℕ → ℕ → ℕ → ℕ �
 Held [] starts ends depth left m = depth ≡ 0
 Held (f ∷ fs) starts ends depth left m = (0 < depth) × (getD starts (depth - 1) 0 ≡ f .start) × (getD ends (depth - 1) 0 ≡ f .end) × (f .levels ≡ left + 1) × (m ≤ f .fuel) × Held fs starts ends (depth - 1) (left + 1) m
 
--- the innermost array at a..b, the stack below it, and what is still to be walked
-pub record Stacked (s : List ℕ) (levels : ℕ) (start : Out) (o₀ : Bufs) (cur₀ : Cursor) (starts ends : List ℕ) (depth left a b : ℕ) (w : ArrayState) (o : Bufs) (cur : Cursor) : Type 0 where
+-- the innermost array at a..b, the stack below it, and what is still to be walked; so many levels are allowed in the outermost
+pub record Stacked (s : List ℕ) (outer : ℕ) (start : Out) (o₀ : Bufs) (cur₀ : Cursor) (starts ends : List ℕ) (depth left a b : ℕ) (w : ArrayState) (o : Bufs) (cur : Cursor) : Type 0 where
   pub frames : List Frame
   pub held : Held frames starts ends depth left (length (tokensAt s cur))
   pub fuel : ℕ
@@ -60,12 +60,11 @@ pub record Stacked (s : List ℕ) (levels : ℕ) (start : Out) (o₀ : Bufs) (cu
   pub good : Good s cur
   pub on : cur₀ .at ≤ cur .at
   pub base : cur .base ≡ cur₀ .base
-  pub sum : left + depth + 1 ≡ levels
+  pub sum : left + depth ≡ outer
 
 -- the first array
-pub stack-begun : (s : List ℕ) (levels a b : ℕ) (w : ArrayState) (o : Bufs) (cur : Cursor) (starts ends : List ℕ) → (levels ≡ 0 → ⊥) → Good s cur
-    → Stacked s levels (looping (arrayTurn (span a b) (onOpen (levels - 1))) w (tokensAt s cur)) o cur starts ends 0 (levels - 1) a b w o cur
-stack-begun s levels a b w o cur starts ends h g = record { frames = []; held = refl; fuel = length (tokensAt s cur); enough = omega arith; same = refl; good = g; on = omega arith; base = refl; sum = omega (arith, h) }
+pub stack-begun : (s : List ℕ) (left a b : ℕ) (w : ArrayState) (o : Bufs) (cur : Cursor) (starts ends : List ℕ) → Good s cur → Stacked s left (looping (arrayTurn (span a b) (onOpen left)) w (tokensAt s cur)) o cur starts ends 0 left a b w o cur
+stack-begun s left a b w o cur starts ends g = record { frames = []; held = refl; fuel = length (tokensAt s cur); enough = omega arith; same = refl; good = g; on = omega arith; base = refl; sum = omega arith }
 
 -- entries of a list of which one is set
 set-same : (l : List ℕ) (i x : ℕ) → i < length l → getD (set l i x) i 0 ≡ x
@@ -108,8 +107,8 @@ no-frames [] starts ends depth left m h e = refl
 no-frames (f ∷ fs) starts ends depth left m (z, p, q, l, n, k) e = absurd (omega (arith, z, e))
 
 -- turns of the innermost array, from here, ended as r says
-module _ {s : List ℕ} {levels : ℕ} {start : Out} {o₀ : Bufs} {cur₀ : Cursor} {starts ends : List ℕ} {depth left a b : ℕ} {w : ArrayState} {o : Bufs} {cur : Cursor}
-    (inv : Stacked s levels start o₀ cur₀ starts ends depth left a b w o cur) {ev er : List ℕ} (r : ArrayTurn) (y : Ran s (span a b) w cur o ev er r) where
+module _ {s : List ℕ} {outer : ℕ} {start : Out} {o₀ : Bufs} {cur₀ : Cursor} {starts ends : List ℕ} {depth left a b : ℕ} {w : ArrayState} {o : Bufs} {cur : Cursor}
+    (inv : Stacked s outer start o₀ cur₀ starts ends depth left a b w o cur) {ev er : List ℕ} (r : ArrayTurn) (y : Ran s (span a b) w cur o ev er r) where
   abbrev All : List Tok
   All = allTokens s (cur₀ .base)
 
@@ -151,7 +150,7 @@ module _ {s : List ℕ} {levels : ℕ} {start : Out} {o₀ : Bufs} {cur₀ : Cur
   stack-table-moved t e = moved (Next.OpenTable t) e
 
   -- another turn
-  pub stack-next : r .turn .next ≡ Next.Again → Stacked s levels start o₀ cur₀ starts ends depth left a b (r .state) (bufs ev er (r .turn .n)) (r .turn .cur)
+  pub stack-next : r .turn .next ≡ Next.Again → Stacked s outer start o₀ cur₀ starts ends depth left a b (r .state) (bufs ev er (r .turn .n)) (r .turn .cur)
   stack-next e =
       record {
         frames = inv .frames;
@@ -172,11 +171,11 @@ module _ {s : List ℕ} {levels : ℕ} {start : Out} {o₀ : Bufs} {cur₀ : Cur
       nested-from q (omega (arith, stack-over-moved e, inv .on)) (y .base ∙ inv .base) (nested-done (r .turn .cur) ev er (r .turn .n) (y .good))
 
   -- the end of the innermost array: on with the nearest that waits
-  pub stack-pop : r .turn .next ≡ Next.Over → (depth ≡ 0 → ⊥) → Stacked s levels start o₀ cur₀ starts ends (depth - 1) (left + 1) (getD starts (depth - 1) 0) (getD ends (depth - 1) 0) ArrayState.NeedsComma (bufs ev er (r .turn .n)) (r .turn .cur)
+  pub stack-pop : r .turn .next ≡ Next.Over → (depth ≡ 0 → ⊥) → Stacked s outer start o₀ cur₀ starts ends (depth - 1) (left + 1) (getD starts (depth - 1) 0) (getD ends (depth - 1) 0) ArrayState.NeedsComma (bufs ev er (r .turn .n)) (r .turn .cur)
   stack-pop e h = popped (inv .frames) (inv .held) (here Next.Over e)
     where
       popped : (fs : List Frame) → Held fs starts ends depth left (length (tokensAt s cur)) → run All (resume fs (done (tokensAt s (r .turn .cur)))) (bufs ev er (r .turn .n)) ≡ run All start o₀
-          → Stacked s levels start o₀ cur₀ starts ends (depth - 1) (left + 1) (getD starts (depth - 1) 0) (getD ends (depth - 1) 0) ArrayState.NeedsComma (bufs ev er (r .turn .n)) (r .turn .cur)
+          → Stacked s outer start o₀ cur₀ starts ends (depth - 1) (left + 1) (getD starts (depth - 1) 0) (getD ends (depth - 1) 0) ArrayState.NeedsComma (bufs ev er (r .turn .n)) (r .turn .cur)
       popped [] z g = absurd (h z)
       popped (f ∷ fs) (z, p, q, l, m, k) g =
           let F : ℕ → ℕ → ℕ → End = λ u v i. run All (resume fs (turns (arrayTurn (span u v) (onOpen i)) (f .fuel) ArrayState.NeedsComma (tokensAt s (r .turn .cur)))) (bufs ev er (r .turn .n)) in
@@ -194,7 +193,7 @@ module _ {s : List ℕ} {levels : ℕ} {start : Out} {o₀ : Bufs} {cur₀ : Cur
 
   -- an array opens in the innermost, which waits from now on
   pub stack-push : (t : Token) → r .turn .next ≡ Next.OpenArray t → (left ≡ 0 → ⊥) → depth < length starts → depth < length ends → (o' : Bufs) → ((all : List Tok) → o' ≡ put all (receiver.arrayOpen (t .start) (t .end)) (bufs ev er (r .turn .n)))
-      → Stacked s levels start o₀ cur₀ (set starts depth a) (set ends depth b) (depth + 1) (left - 1) (t .start) (t .end) ArrayState.NeedsValue o' (r .turn .cur)
+      → Stacked s outer start o₀ cur₀ (set starts depth a) (set ends depth b) (depth + 1) (left - 1) (t .start) (t .end) ArrayState.NeedsValue o' (r .turn .cur)
   stack-push t e h ls le o' p =
       record {
         frames = top ∷ inv .frames;
@@ -234,7 +233,7 @@ module _ {s : List ℕ} {levels : ℕ} {start : Out} {o₀ : Bufs} {cur₀ : Cur
 
   -- a bracket was opened by a call, which was refused or not
   module _ {ev' er' : List ℕ} {v : NestWalk} (g : Out) (q : run All (resume (inv .frames) (g then Loop (onward .fuel) (r .state))) (bufs ev er (r .turn .n)) ≡ run All start o₀) (h : cur .at + 1 ≤ r .turn .cur .at) (m : length (tokensAt s (r .turn .cur)) ≤ onward .fuel) (z : Nested s g (r .turn .cur) (bufs ev er (r .turn .n)) ev' er' v) where
-    called-again : v .stopped ≡ false → Stacked s levels start o₀ cur₀ starts ends depth left a b (r .state) (bufs ev' er' (v .n)) (v .cur)
+    called-again : v .stopped ≡ false → Stacked s outer start o₀ cur₀ starts ends depth left a b (r .state) (bufs ev' er' (v .n)) (v .cur)
     called-again e =
         record {
           frames = inv .frames;
@@ -252,13 +251,13 @@ module _ {s : List ℕ} {levels : ℕ} {start : Out} {o₀ : Bufs} {cur₀ : Cur
     called-stop e = nested-from q (omega (arith, h, inv .on)) (y .base ∙ inv .base) (resume-stop (inv .frames) (nested-stop (Loop (onward .fuel) (r .state)) z e) e)
 
   module _ (t : Token) {ev' er' : List ℕ} {v : NestWalk} where
-    pub stack-array-again : r .turn .next ≡ Next.OpenArray t → Nested s (onOpen left Bracket.Square (t .start) (t .end) (tokensAt s (r .turn .cur))) (r .turn .cur) (bufs ev er (r .turn .n)) ev' er' v → v .stopped ≡ false → Stacked s levels start o₀ cur₀ starts ends depth left a b (r .state) (bufs ev' er' (v .n)) (v .cur)
+    pub stack-array-again : r .turn .next ≡ Next.OpenArray t → Nested s (onOpen left Bracket.Square (t .start) (t .end) (tokensAt s (r .turn .cur))) (r .turn .cur) (bufs ev er (r .turn .n)) ev' er' v → v .stopped ≡ false → Stacked s outer start o₀ cur₀ starts ends depth left a b (r .state) (bufs ev' er' (v .n)) (v .cur)
     stack-array-again e z f = called-again (onOpen left Bracket.Square (t .start) (t .end) (tokensAt s (r .turn .cur))) (here (Next.OpenArray t) e) (stack-array-moved t e) (enough-at (Next.OpenArray t) e) z f
 
     pub stack-array-stop : r .turn .next ≡ Next.OpenArray t → Nested s (onOpen left Bracket.Square (t .start) (t .end) (tokensAt s (r .turn .cur))) (r .turn .cur) (bufs ev er (r .turn .n)) ev' er' v → v .stopped ≡ true → Nested s start cur₀ o₀ ev' er' v
     stack-array-stop e z f = called-stop (onOpen left Bracket.Square (t .start) (t .end) (tokensAt s (r .turn .cur))) (here (Next.OpenArray t) e) (stack-array-moved t e) (enough-at (Next.OpenArray t) e) z f
 
-    pub stack-table-again : r .turn .next ≡ Next.OpenTable t → Nested s (onOpen left Bracket.Curly (t .start) (t .end) (tokensAt s (r .turn .cur))) (r .turn .cur) (bufs ev er (r .turn .n)) ev' er' v → v .stopped ≡ false → Stacked s levels start o₀ cur₀ starts ends depth left a b (r .state) (bufs ev' er' (v .n)) (v .cur)
+    pub stack-table-again : r .turn .next ≡ Next.OpenTable t → Nested s (onOpen left Bracket.Curly (t .start) (t .end) (tokensAt s (r .turn .cur))) (r .turn .cur) (bufs ev er (r .turn .n)) ev' er' v → v .stopped ≡ false → Stacked s outer start o₀ cur₀ starts ends depth left a b (r .state) (bufs ev' er' (v .n)) (v .cur)
     stack-table-again e z f = called-again (onOpen left Bracket.Curly (t .start) (t .end) (tokensAt s (r .turn .cur))) (here (Next.OpenTable t) e) (stack-table-moved t e) (enough-at (Next.OpenTable t) e) z f
 
     pub stack-table-stop : r .turn .next ≡ Next.OpenTable t → Nested s (onOpen left Bracket.Curly (t .start) (t .end) (tokensAt s (r .turn .cur))) (r .turn .cur) (bufs ev er (r .turn .n)) ev' er' v → v .stopped ≡ true → Nested s start cur₀ o₀ ev' er' v

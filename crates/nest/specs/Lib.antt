@@ -1,3 +1,2 @@
 pub mod Nested
 pub mod NestedLaws
-pub mod Ran

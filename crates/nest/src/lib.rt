@@ -1,3 +1,2 @@
 // Arrays and inline tables that open one another: the one cycle.
 pub mod nest;
-pub mod turns;

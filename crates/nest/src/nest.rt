@@ -1,21 +1,20 @@
 // Arrays and inline tables open one another; the levels still allowed fall at each opening.
 // What is handed to a function lies in memory from then on, so copies are handed on, and the loops' own cursor and counts stay in
 // registers.
-use crate::turns::array_turns;
 use array_parts::turn::Next;
+use array_runs::turns::array_turns;
 use inline_actions::action_table;
 use inline_turns::inline_table::inline_table_turn;
+use openings::array_open;
+use openings::table_open;
 use output::emitting::Counts;
 use output::emitting::Walk;
-use output::emitting::emit;
 use rules::array::ArrayState;
-use rules::event::Event;
 use rules::inline_table::Progress;
 use rules::inline_table::State;
 use rules::options::Settings;
 use token::cursor::Cursor;
 use token::cursor::Token;
-use token::kind::Kind;
 ghost use mathlib.Core.Path.{_≡_};
 ghost use mathlib.Core.Bool.{false};
 ghost use Rattle.token.specs.Tokens.{Good, tokensAt};
@@ -59,19 +58,18 @@ pub fn on_array_open(
     requires { ⌜ Good (now s) c ⌝ }
     ensures { λ r. ⌜ Nested (now (s .entry)) (onArrayOpen (settings .levels) (head .start) (head .end) (tokensAt (now (s .entry)) c)) c (bufs (now (events .entry)) (now (errors .entry)) m) (now (events .exit)) (now (errors .exit)) r ⌝ }
 {
-    let levels = settings.levels;
     let options = settings.options;
-    if levels == 0 {
+    if settings.levels == 0 {
         return NestWalk {
             cur: c,
             n: m,
             stopped: true,
         };
     }
-    let mut n = emit(events, m, Event::ArrayOpen, head.start, head.end);
+    let mut n = array_open(events, m, head);
     let mut cur = c;
     let mut state = ArrayState::NeedsValue;
-    let mut left = levels - 1;
+    let mut left = settings.levels - 1;
     let mut inner = head;
     let mut starts = [0u32; HELD];
     let mut ends = [0u32; HELD];
@@ -95,11 +93,8 @@ pub fn on_array_open(
                 }
                 depth -= 1;
                 left += 1;
-                inner = Token {
-                    kind: Kind::LeftSquareBracket,
-                    start: starts[depth],
-                    end: ends[depth],
-                };
+                inner.start = starts[depth];
+                inner.end = ends[depth];
                 state = ArrayState::NeedsComma;
             }
             Next::OpenArray(t) => {
@@ -116,7 +111,7 @@ pub fn on_array_open(
                     depth += 1;
                     left -= 1;
                     inner = t;
-                    n = emit(events, n, Event::ArrayOpen, t.start, t.end);
+                    n = array_open(events, n, t);
                     state = ArrayState::NeedsValue;
                 } else {
                     let list = s;
@@ -127,8 +122,7 @@ pub fn on_array_open(
                         options,
                     };
                     let v = on_array_open(list, t, from, sofar, inside, events, errors);
-                    let stopped = v.stopped;
-                    if stopped {
+                    if v.stopped {
                         return v;
                     }
                     cur = v.cur;
@@ -144,8 +138,7 @@ pub fn on_array_open(
                     options,
                 };
                 let v = on_inline_table_open(list, t, from, sofar, inside, events, errors);
-                let stopped = v.stopped;
-                if stopped {
+                if v.stopped {
                     return v;
                 }
                 cur = v.cur;
@@ -176,7 +169,7 @@ pub fn on_inline_table_open(
             stopped: true,
         };
     }
-    let mut n = emit(events, m, Event::InlineTableOpen, head.start, head.end);
+    let mut n = table_open(events, m, head);
     // By its parts, so that the compiler hands it over in memory: in two words its place would have to be taken out at each turn.
     let mut cur = Cursor {
         at: c.at,
@@ -214,8 +207,7 @@ pub fn on_inline_table_open(
                 let from = cur;
                 let sofar = n;
                 let v = on_array_open(list, t, from, sofar, inside, events, errors);
-                let stopped = v.stopped;
-                if stopped {
+                if v.stopped {
                     return v;
                 }
                 cur = v.cur;
@@ -226,8 +218,7 @@ pub fn on_inline_table_open(
                 let from = cur;
                 let sofar = n;
                 let v = on_inline_table_open(list, t, from, sofar, inside, events, errors);
-                let stopped = v.stopped;
-                if stopped {
+                if v.stopped {
                     return v;
                 }
                 cur = v.cur;

@@ -4,5 +4,4 @@ pub mod WalkLaws
 pub mod TurnLaws
 pub mod LookLaws
 pub mod NextLaws
-pub mod CapLaws
 pub mod MeetLaws

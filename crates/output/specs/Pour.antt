@@ -1,9 +1,7 @@
 -- From items to the two lent buffers, one item at a time: how the code emits. Assumes nothing.
-use mathlib.Core.Bool.{cond}
 use mathlib.Core.List.{List, [], _∷_}
-use Prim.Native.Nat.{ℕ, _+_, _-_, _*_, _/_}
-use lib.ListN.{length, set}
-use lib.Dec.{ltb}
+use Prim.Native.Nat.{ℕ, _+_, _-_}
+use lib.ListN.{length}
 use Rattle.token.specs.Tokens.{Tok}
 use Rattle.token.specs.Spans.{spanAfter}
 use Rattle.token.specs.declared.span.Span.{Span}
@@ -12,23 +10,8 @@ use Rattle.rules.specs.Out.{Item, event, eventAfter, report, trailingComma, sto
 use Rattle.rules.specs.Messages as message
 use Rattle.rules.specs.Expected as expected
 use Rattle.rules.specs.Words.{eventNumber, encodingOf, lookedUp, spanOf, Halt, ended, refusedLevel}
-use Rattle.rules.specs.Answer.{eventSize, errorSize}
+use Rattle.buffer_puts.specs.Puts.{putEvent, putError, more, capped}
 use Rattle.output.specs.declared.emitting.Counts.{Counts}
-
--- entry i of a buffer, if there is room for it
-unfoldable pub putEvent : List ℕ → ℕ → ℕ → ℕ → ℕ → ℕ → List ℕ
-putEvent l i a b c d = cond (ltb i (length l / eventSize)) (set (set (set (set l (i * eventSize) a) (i * eventSize + 1) b) (i * eventSize + 2) c) (i * eventSize + 3) d) l
-
-unfoldable pub putError : List ℕ → ℕ → ℕ → ℕ → ℕ → ℕ → ℕ → ℕ → ℕ → List ℕ
-putError l i a b c d e f g = cond (ltb i (length l / errorSize)) (set (set (set (set (set (set (set l (i * errorSize) a) (i * errorSize + 1) b) (i * errorSize + 2) c) (i * errorSize + 3) d) (i * errorSize + 4) e) (i * errorSize + 5) f) (i * errorSize + 6) g) l
-
--- one more, up to a bound that no list of the rules reaches
-unfoldable pub more : ℕ → ℕ
-more n = cond (ltb n 2147483647) (n + 1) n
-
--- the number of a record, up to a bound that no list reaches
-unfoldable pub capped : ℕ → ℕ
-capped n = cond (ltb n 2147483647) n 2147483647
 
 -- the last three words of an error as the walk leaves them, which the pass over the errors behind it makes span and line: a span and 0; or, where a comma is still to be looked for, the place that is
 -- named where there is none, the record before which it is looked for, and one more than the record behind the `{`

@@ -2,10 +2,12 @@
 // The line of an error, and the comma that the report of a trailing comma is about, are found when the walk is over, by the crate line_numbers.
 use crate::expected::NOTHING;
 use crate::message::TRAILING_COMMA;
+use buffer_puts::capped;
+use buffer_puts::one_more;
+use buffer_puts::put_error;
+use buffer_puts::put_event;
 use classes::event::encoding_of;
 use classes::event::event_number;
-use rules::answer::ERROR_WORDS;
-use rules::answer::EVENT_WORDS;
 use rules::event::Encoding;
 use rules::event::Event;
 use token::cursor::Cursor;
@@ -17,7 +19,8 @@ ghost use lib.ListN.{length};
 ghost use Rattle.token.specs.Tokens.{Tok};
 ghost use Rattle.rules.specs.Out.{span};
 ghost use Rattle.rules.specs.Out as item;
-ghost use Rattle.output.specs.Pour.{more, capped, putEvent, putError, put, bufs};
+ghost use Rattle.buffer_puts.specs.Puts.{capped};
+ghost use Rattle.output.specs.Pour.{put, bufs};
 
 // How many events and errors there are so far.
 pub struct Counts {
@@ -29,53 +32,6 @@ pub struct Counts {
 pub struct Walk {
     pub cur: Cursor,
     pub n: Counts,
-}
-
-// One more. The rules' lists never come near the bound, so that the counts are exact; it spares every contract a bound.
-fn one_more(i: usize) -> usize
-    ensures { λ r. ⌜ r ≡ more i ⌝ }
-{
-    if i < 2147483647 { i + 1 } else { i }
-}
-
-fn put_event(events: &mut [u32], i: usize, kind: u32, encoding: u32, start: u32, end: u32)
-    ensures { λ _. ⌜ now (events .exit) ≡ putEvent (now (events .entry)) i kind encoding start end ⌝ }
-{
-    if i < events.len() / EVENT_WORDS {
-        let b = i * EVENT_WORDS;
-        events[b] = kind;
-        events[b + 1] = encoding;
-        events[b + 2] = start;
-        events[b + 3] = end;
-    }
-}
-
-fn put_error(
-    errors: &mut [u32],
-    i: usize,
-    message: u32,
-    expected: u32,
-    from: u32,
-    to: u32,
-    start: u32,
-    end: u32,
-    mark: u32,
-)
-    ensures { λ _. ⌜ now (errors .exit) ≡ putError (now (errors .entry)) i message expected «from» to start end mark ⌝ }
-{
-    // As `i < errors.len() / ERROR_WORDS`, without a division, which would be made ahead of every loop that has an error to report.
-    if i < errors.len() {
-        let b = i * ERROR_WORDS;
-        if b + 6 < errors.len() {
-            errors[b] = message;
-            errors[b + 1] = expected;
-            errors[b + 2] = from;
-            errors[b + 3] = to;
-            errors[b + 4] = start;
-            errors[b + 5] = end;
-            errors[b + 6] = mark;
-        }
-    }
 }
 
 // An event over start..end.
@@ -114,13 +70,6 @@ pub fn report(
         events: n.events,
         errors: one_more(n.errors),
     }
-}
-
-// The number of a record. A list never has so many that the bound is reached; it spares every contract a bound.
-fn capped(n: usize) -> u32
-    ensures { λ r. ⌜ r ≡ capped n ⌝ }
-{
-    if n < 2147483647 { n as u32 } else { 2147483647 }
 }
 
 // A trailing comma in the inline table that `head` opened, of which `behind` is the first record. The comma is still to be looked for, before the

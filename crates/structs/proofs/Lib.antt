@@ -1,5 +1,3 @@
-pub mod StructLaws
-pub mod Again
+pub mod NumberCalls
 pub mod OwnArray
 pub mod BigConstant
-pub mod KeptLaws

@@ -1,4 +1,5 @@
 // The ends of table headers: closed, and not closed.
+use backward_search::nearest_before;
 use line_ends::line_end::ws_comment_newline;
 use output::emitting::Counts;
 use output::emitting::Walk;
@@ -36,7 +37,8 @@ pub fn unclosed_table(
     ensures { λ r. ⌜ Goes (now (s .entry)) (unclosed array valid (head .start) (head .end) (tokensAt (now (s .entry)) c)) c (bufs (now (events .entry)) (now (errors .entry)) m) (now (events .exit)) (now (errors .exit)) r ⌝ }
 {
     if valid {
-        let last = c.nearest_before(
+        let last = nearest_before(
+            c,
             s,
             Sought::Solid,
             Span {

@@ -21,7 +21,7 @@ use Rattle.fitting.specs.Premises.{documentRun}
 use Rattle.fitting.proofs.KeyWords.{single-line-iff}
 use Rattle.fitting.proofs.OutcomeTheorems.{roomy-fits-quiet}
 use Rattle.scan.specs.Lexer.{tokensOf}
-use Rattle.utf8.specs.Utf8.{validUpTo}
+use Rattle.utf8_sequences.specs.Utf8.{validUpTo}
 use Rattle.lex.specs.Lexed.{LexOutcome, lexOutcome, refused, lexed}
 use Rattle.text_rules.specs.TextOutcome.{TextOutcome, readingBy, textOutcome, textRun}
 use Rattle.text_rules.specs.TextPremises.{WithinLimits, RecordRoom}

@@ -1,3 +1,1 @@
-pub mod Put
-pub mod PutLaws
 pub mod TextRecordLaws

@@ -12,7 +12,7 @@ use Rattle.scan.specs.declared.lexer.Found.{Found}
 use Rattle.scan.specs.Lexer.{tokensFrom}
 use Rattle.scan.specs.Finding.{IsToken, pieceAt}
 use Rattle.scan.specs.LexerLaws.{lexer-on, lexer-end, lexer-some}
-use Rattle.text_records.specs.Put.{Put}
+use Rattle.token_records.specs.Put.{Put}
 
 -- a loop that counts: n tokens, and those still to come
 pub record Counted (s : List ℕ) (at₀ at n : ℕ) : Type 0 where

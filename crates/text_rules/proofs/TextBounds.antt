@@ -18,7 +18,7 @@ use Rattle.rules.specs.Answer.{eventSize, errorSize}
 use Rattle.bounds.specs.Most.{mostEvents, mostErrors}
 use Rattle.bounds.specs.Bounds.{three-events, two-errors, more-events, more-errors}
 use Rattle.bounds.specs.CountLaws.{counts-most, room-events, room-errors, refusal-most}
-use Rattle.utf8.specs.Utf8.{validUpTo}
+use Rattle.utf8_sequences.specs.Utf8.{validUpTo}
 use Rattle.scan.specs.Lexer.{tokensOf}
 use Rattle.lex.specs.Lexed.{LexOutcome, lexOutcome, refused, lexed}
 use Rattle.lex.specs.TextLaws.{text-few}

@@ -16,7 +16,7 @@ use Rattle.token.specs.Tokens.{allTokens}
 use Rattle.token.specs.Check.{checked}
 use Rattle.token.specs.Writing.{recordsOf}
 use Rattle.token.specs.WritingLaws.{records-length}
-use Rattle.utf8.specs.Utf8.{table, sequenceOf, behindFirst, validFrom, validUpTo}
+use Rattle.utf8_sequences.specs.Utf8.{table, sequenceOf, behindFirst, validFrom, validUpTo}
 use Rattle.scan.specs.Lexer.{tokensOf, baseOf}
 use Rattle.lex.specs.Lexed.{LexOutcome, lexOutcome, refused, lexed}
 use Rattle.lex.specs.TextLaws.{text-few, text-read, text-passes}

@@ -6,7 +6,7 @@ use Prim.Native.Nat.{ℕ, _≤_, _/_}
 use lib.ListN.{length}
 use Rattle.token.specs.Limits.{maxRecords, maxEnd}
 use Rattle.scan.specs.Lexer.{tokensOf}
-use Rattle.utf8.specs.Utf8.{validUpTo}
+use Rattle.utf8_sequences.specs.Utf8.{validUpTo}
 use Rattle.text_rules.specs.TextOutcome.{textRun}
 use Rattle.rules.specs.declared.options.Options.{Options}
 

@@ -1,11 +1,11 @@
 // Demand 3 said of a text: theorems, each the contract of a function. The theorems about token lists speak of records that lie in memory, so the
 // function lexes the text into the record buffer and cites them of what stands there.
-use fitting::theorems::quiet_brackets_nest;
-use fitting::theorems::quiet_events_determine_tokens;
-use fitting::theorems::quiet_events_end_to_end;
-use fitting::theorems::quiet_exactly_when_fits;
-use fitting::theorems::quiet_exactly_when_fits_within;
-use fitting::theorems::quiet_then_fits;
+use fitting_theorems::theorems::quiet_brackets_nest;
+use fitting_theorems::theorems::quiet_events_determine_tokens;
+use fitting_theorems::theorems::quiet_events_end_to_end;
+use fitting_theorems::theorems::quiet_exactly_when_fits;
+use fitting_theorems::theorems::quiet_exactly_when_fits_within;
+use fitting_theorems::theorems::quiet_then_fits;
 use lex::lex;
 ghost use mathlib.Core.Path.{_≡_};
 ghost use mathlib.Core.Logic.{_↔_};

@@ -1,15 +1,10 @@
 // A place in a list of token records, passed by value: what the Rust has as TokenSlice. Each call hands the next cursor back.
-use crate::kind::InSearch;
 use crate::kind::Kind;
-use crate::kind::in_search;
 use crate::kind::number_of;
 use crate::record::kind_at;
 use crate::record::length_at;
-use crate::span::Span;
-ghost use mathlib.Core.Path.{_≡_};
 ghost use Prim.Native.Nat.{_<_};
-ghost use Rattle.token.specs.Tokens.{Good, At, Next, NextIf, Peek, Back, allTokens};
-ghost use Rattle.token.specs.Search.{isSought, nearestBetween};
+ghost use Rattle.token.specs.Tokens.{Good, At, Next, NextIf, Peek, Back};
 
 pub struct Token {
     pub kind: Kind,
@@ -41,32 +36,6 @@ pub enum Sought {
     Significant,
     Comma,
     Solid,
-}
-
-fn is_sought(what: Sought, kind: Kind) -> bool
-    ensures { λ r. ⌜ r ≡ isSought what kind ⌝ }
-{
-    let class = in_search(kind);
-    match what {
-        Sought::Significant => match class {
-            InSearch::Whitespace => false,
-            InSearch::Trivia => false,
-            InSearch::Comma => true,
-            InSearch::Other => true,
-        },
-        Sought::Comma => match class {
-            InSearch::Whitespace => false,
-            InSearch::Trivia => false,
-            InSearch::Comma => true,
-            InSearch::Other => false,
-        },
-        Sought::Solid => match class {
-            InSearch::Whitespace => false,
-            InSearch::Trivia => true,
-            InSearch::Comma => true,
-            InSearch::Other => true,
-        },
-    }
 }
 
 impl Cursor {
@@ -147,23 +116,5 @@ impl Cursor {
             place: self.place - length_at(s, at),
             base: self.base,
         }
-    }
-
-    // The nearest earlier token that is sought and not before the record `first`, or `none`.
-    pub fn nearest_before(self, s: &[u8], what: Sought, none: Span, first: usize) -> Span
-        requires { ⌜ Good (now s) self ⌝ }
-        ensures { λ r. ⌜ r ≡ nearestBetween what none first (self .at) (allTokens (now (s .entry)) (self .base)) ⌝ }
-    {
-        let mut at = self.at;
-        let mut place = self.place;
-        while first < at {
-            at -= 1;
-            let end = place;
-            place -= length_at(s, at);
-            if is_sought(what, kind_at(s, at)) {
-                return Span { start: place, end };
-            }
-        }
-        none
     }
 }

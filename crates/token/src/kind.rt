@@ -1,6 +1,6 @@
-// The sixteen kinds of token, and what a kind is to the functions of this layer.
+// The sixteen kinds of token, their numbers, and the classes of a search backward.
 ghost use mathlib.Core.Path.{_≡_};
-ghost use Rattle.token.specs.Kinds.{kindOf, numberOf, inSearch};
+ghost use Rattle.token.specs.Kinds.{kindOf, numberOf};
 
 pub enum Kind {
     Dot,
@@ -74,28 +74,5 @@ pub fn number_of(kind: Kind) -> usize
         Kind::MlBasicString => 14,
         Kind::Atom => 15,
         Kind::Eof => 16,
-    }
-}
-
-pub fn in_search(kind: Kind) -> InSearch
-    ensures { λ r. ⌜ r ≡ inSearch kind ⌝ }
-{
-    match kind {
-        Kind::Dot => InSearch::Other,
-        Kind::Equals => InSearch::Other,
-        Kind::Comma => InSearch::Comma,
-        Kind::LeftSquareBracket => InSearch::Other,
-        Kind::RightSquareBracket => InSearch::Other,
-        Kind::LeftCurlyBracket => InSearch::Other,
-        Kind::RightCurlyBracket => InSearch::Other,
-        Kind::Whitespace => InSearch::Whitespace,
-        Kind::Comment => InSearch::Trivia,
-        Kind::Newline => InSearch::Trivia,
-        Kind::LiteralString => InSearch::Other,
-        Kind::BasicString => InSearch::Other,
-        Kind::MlLiteralString => InSearch::Other,
-        Kind::MlBasicString => InSearch::Other,
-        Kind::Atom => InSearch::Other,
-        Kind::Eof => InSearch::Trivia,
     }
 }

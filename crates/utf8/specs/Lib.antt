@@ -1,4 +1,1 @@
-pub mod Utf8
-pub mod Steps
 pub mod Sequences
-pub mod Utf8Laws

@@ -1,7 +1,7 @@
 -- Sequences of bytes, each kind of the table and each way to miss it, and how far they are well-formed as Rust's valid_up_to has it. Assumes nothing.
 use mathlib.Core.List.{List, [], _∷_}
 use Prim.Native.Nat.{ℕ}
-use Rattle.utf8.specs.Utf8.{validUpTo}
+use Rattle.utf8_sequences.specs.Utf8.{validUpTo}
 
 pub record Sequence : Type 0 where
   pub place : ℕ

@@ -1,18 +1,15 @@
 // The replay program: replays the lists in the file vectors.bin on the four entries, and holds what comes to what the oracle answered:
 // the answer, the words that were written, and those that must stay untouched. Prints a line for each class of lists, with how many
 // there are and how many differ, and one for all. oracle/src/frame.rs says what the file has in it; oracle/expected makes it.
-mod comparing;
-mod frames;
 mod replay;
-mod tally;
 
-use crate::comparing::Compared;
-use crate::frames::Frame;
-use crate::frames::read_frame;
 use crate::replay::replay;
-use crate::tally::Class;
-use crate::tally::Tally;
-use crate::tally::new_class;
+use vector_files::comparing::Compared;
+use vector_files::frames::Frame;
+use vector_files::frames::read_frame;
+use vector_files::tally::Class;
+use vector_files::tally::Tally;
+use vector_files::tally::new_class;
 
 // What is left to do after a frame.
 enum After {

@@ -1,12 +1,4 @@
 // Replaying a case: its list is read and parsed, and what comes is held to what the file says.
-use crate::comparing::Compared;
-use crate::comparing::UNTOUCHED;
-use crate::comparing::both_of;
-use crate::comparing::next_words_are;
-use crate::comparing::same_answer;
-use crate::frames::Case;
-use crate::frames::first_filled;
-use crate::frames::whole_words;
 use entries::entries::parse_document;
 use entries::entries::parse_key;
 use entries::entries::parse_simple_key;
@@ -16,6 +8,14 @@ use rules::answer::ERROR_WORDS;
 use rules::answer::EVENT_WORDS;
 use rules::options::Mode;
 use rules::options::Options;
+use vector_files::comparing::Compared;
+use vector_files::comparing::UNTOUCHED;
+use vector_files::comparing::both_of;
+use vector_files::comparing::next_words_are;
+use vector_files::comparing::same_answer;
+use vector_files::frames::Case;
+use vector_files::frames::first_filled;
+use vector_files::frames::whole_words;
 
 // Room for the most events and errors that a case may have.
 const EVENT_ROOM: usize = 1024 * EVENT_WORDS;

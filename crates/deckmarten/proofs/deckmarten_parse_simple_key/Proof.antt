@@ -2,7 +2,7 @@
 -- Made by ./proofs from Proof.tmpl: change that.
 use Rattle.rules.specs.Entries.{simpleKeyEntry}
 use Rattle.choices.specs.ModeLaws.{known-answers, unknown-answers}
-use Rattle.exports.specs.ExportLaws.{exports}
+use Rattle.export_answers.specs.ExportLaws.{exports}
 use borrow.Author.Needs.{needs}
 use Rattle.deckmarten.proofs.deckmarten_parse_simple_key.Statement.{statement}
 use Rattle.deckmarten.proofs.deckmarten_parse_simple_key.Tie as tie

@@ -41,23 +41,23 @@ use Rattle.rules.specs.Entries.{documentEntry}
 use Rattle.rules.proofs.answer.Answer as R
 use Rattle.rules.proofs.answer.Answer.Laws as R′
 use Rattle.choices.specs.Modes.{AnswersIn}
-use Rattle.structs.specs.Structs.{recordsOf}
-use Rattle.structs.specs.declared.Token.{Token}
-use Rattle.structs.proofs.Again.{slice}
-use Rattle.structs.proofs.Token as T
+use Rattle.struct_records.specs.Structs.{recordsOf}
+use Rattle.struct_records.specs.declared.Token.{Token}
+use Rattle.struct_records.proofs.Again.{slice}
+use Rattle.struct_records.proofs.Token as T
 use Rattle.structs.proofs.parse_tokens as parse-tokens
 use Rattle.structs.proofs.parse_tokens.Symbol as parse-tokens-def
 use Rattle.structs.proofs.parse_tokens.Symbol.{name as #structs·parse-tokens}
 use Rattle.structs.proofs.parse_tokens.Met as parse-tokens-thm
-use Rattle.exports.specs.declared.answer.ExportedAnswer.{ExportedAnswer}
-use Rattle.exports.specs.Exported.{plain as plainly}
-use Rattle.exports.specs.ExportLaws.{exports}
-use Rattle.exports.proofs.answer.ExportedAnswer as E
-use Rattle.exports.proofs.answer.ExportedAnswer.Laws as E′
-use Rattle.exports.proofs.answer.exported as exported
-use Rattle.exports.proofs.answer.exported.Symbol as exported-def
-use Rattle.exports.proofs.answer.exported.Symbol.{name as #exports·answer·exported}
-use Rattle.exports.proofs.answer.exported.Met as exported-thm
+use Rattle.export_answers.specs.declared.answer.ExportedAnswer.{ExportedAnswer}
+use Rattle.export_answers.specs.Exported.{plain as plainly}
+use Rattle.export_answers.specs.ExportLaws.{exports}
+use Rattle.export_answers.proofs.answer.ExportedAnswer as E
+use Rattle.export_answers.proofs.answer.ExportedAnswer.Laws as E′
+use Rattle.export_answers.proofs.answer.exported as exported
+use Rattle.export_answers.proofs.answer.exported.Symbol as exported-def
+use Rattle.export_answers.proofs.answer.exported.Symbol.{name as #exports·answer·exported}
+use Rattle.export_answers.proofs.answer.exported.Met as exported-thm
 use Rattle.deckmarten.proofs.deckmarten_parse_tokens_in.Key.{name as #deckmarten·deckmarten-parse-tokens-in}
 use Rattle.deckmarten.proofs.deckmarten_parse_tokens_in as exporting
 use Rattle.deckmarten.proofs.deckmarten_parse_tokens_in.Statement as stated

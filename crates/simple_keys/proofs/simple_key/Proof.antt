@@ -7,7 +7,7 @@ use Rattle.rules.specs.Keys.{simpleKey}
 use Rattle.key_spaces.specs.Nothing.{nothingLeft}
 use Rattle.rules.specs.Expected as expected
 use Rattle.output.specs.WalkLaws.{told, told-done, by-rule, rule-end, first-item, run-done, goes-by, goes-as, goes-past}
-use Rattle.simple_keys.proofs.SimpleKeyLaws.{simple-at}
+use Rattle.simple_parts.proofs.SimpleKeyLaws.{simple-at}
 use borrow.Author.Needs.{needs}
 use Rattle.simple_keys.proofs.simple_key.Statement.{statement}
 use Rattle.simple_keys.proofs.simple_key.Tie as tie

@@ -44,15 +44,15 @@ use Rattle.rules.specs.Entries.{documentEntry}
 use Rattle.rules.proofs.answer.Answer as R
 use Rattle.rules.proofs.answer.Answer.Laws as R′
 use Rattle.choices.specs.Modes.{AnswersIn}
-use Rattle.structs.specs.Structs.{recordsOf}
-use Rattle.structs.specs.declared.Token.{Token}
-use Rattle.structs.proofs.StructLaws.{first-records}
-use Rattle.structs.proofs.Token as T
-use Rattle.structs.proofs.Again.{slice, LentAgain, lends-again, comes-back}
-use Rattle.structs.proofs.copy as copy
-use Rattle.structs.proofs.copy.Symbol as copy-def
-use Rattle.structs.proofs.copy.Symbol.{name as #structs·copy}
-use Rattle.structs.proofs.copy.Met as copy-thm
+use Rattle.struct_records.specs.Structs.{recordsOf}
+use Rattle.struct_records.specs.declared.Token.{Token}
+use Rattle.struct_records.proofs.StructLaws.{first-records}
+use Rattle.struct_records.proofs.Token as T
+use Rattle.struct_records.proofs.Again.{slice, LentAgain, lends-again, comes-back}
+use Rattle.struct_records.proofs.copy as copy
+use Rattle.struct_records.proofs.copy.Symbol as copy-def
+use Rattle.struct_records.proofs.copy.Symbol.{name as #struct-records·copy}
+use Rattle.struct_records.proofs.copy.Met as copy-thm
 use Rattle.structs.proofs.parse_records as parse-records
 use Rattle.structs.proofs.parse_records.Symbol as parse-records-def
 use Rattle.structs.proofs.parse_records.Symbol.{name as #structs·parse-records}
@@ -146,7 +146,7 @@ module _ {M : Type 1} (𝓤 : URA M) (H : Heap 𝓤) (A : Atoms 𝓤) (W : Given
       move ! (1 ∷ []) $ split ! $ nothing ! $ move ! (2 ∷ 0 ∷ []) $ fjoin ! $ move ! (1 ∷ 0 ∷ []) $ fjoin ! $ owned ! u32 (Is u32) (uint-makes 𝓤 H A W w32) base _ (refl, gb) $ fjoin ! $
       owned ! usize (Is usize) (uint-makes 𝓤 H A W w64) n _ (refl, gn) $ fjoin ! $ move ! (1 ∷ 0 ∷ []) $ fjoin ! $ owned ! u32 (Is u32) (uint-makes 𝓤 H A W w32) mode _ (refl, go) $ fjoin ! $ done !
 
-  module _ (C : Calls 𝓤 H) (Λ : Loops 𝓤 H) (fm : FmC 𝓤 H (W .laws) C) (known-copy : Triple 𝓤 (C #structs·copy) (Copy 𝓤 H A mem run)) (known-parse : Triple 𝓤 (C #structs·parse-records) (Parse 𝓤 H A mem run)) where
+  module _ (C : Calls 𝓤 H) (Λ : Loops 𝓤 H) (fm : FmC 𝓤 H (W .laws) C) (known-copy : Triple 𝓤 (C #struct-records·copy) (Copy 𝓤 H A mem run)) (known-parse : Triple 𝓤 (C #structs·parse-records) (Parse 𝓤 H A mem run)) where
     walk : Room T.the-row n → Room u8 (length (records .now)) → Room u32 (length (events .now)) → Room u32 (length (errors .now)) → 6 * n ≤ length (records .now)
         → ent 𝓤 (onEntry 𝓤 H A parse-in.signature (κ₁, (κ₂, (κ₃, (κ₄, tt)))) (q₁, (q₂, (q₃, (q₄, tt)))) a at) (WpFn 𝓤 H C Λ code.function (vint w32 mode ∷ slice tokens ∷ (slice records) ∷ vint w32 base ∷ (slice events) ∷ (slice errors) ∷ []) Post)
     walk gn gm ge gr roomy =
@@ -200,14 +200,14 @@ module _ {M : Type 1} (𝓤 : URA M) (H : Heap 𝓤) (A : Atoms 𝓤) (W : Given
         keep ! (10 ∷ 1 ∷ 14 ∷ 7 ∷ 4 ∷ 2 ∷ 0 ∷ []) $ by ! (exits p v (ws .1 .0) (us .1 .0) (us .1 .1 .1 .1 .0) (us .1 .1 .1 .1 .1 .0) f e (k₂ ∙ l) k₃ k₄))))))))))))))))))))))))))))))))))
 
 module _ {M : Type 1} (𝓤 : URA M) (H : Heap 𝓤) (A : Atoms 𝓤) (W : Given 𝓤 H A) (mem : Memory → SProp 𝓤) (run : Routine → Fun 𝓤) where
-  parse-in-walks : (C : Calls 𝓤 H) (Λ : Loops 𝓤 H) → FmC 𝓤 H (W .laws) C → Triple 𝓤 (C #structs·copy) (Copy 𝓤 H A mem run) → Triple 𝓤 (C #structs·parse-records) (Parse 𝓤 H A mem run) → Walks 𝓤 H A parse-in.ended stayed (WpFn 𝓤 H C Λ code.function) (parse-in.clauses 𝓤 H A mem run)
+  parse-in-walks : (C : Calls 𝓤 H) (Λ : Loops 𝓤 H) → FmC 𝓤 H (W .laws) C → Triple 𝓤 (C #struct-records·copy) (Copy 𝓤 H A mem run) → Triple 𝓤 (C #structs·parse-records) (Parse 𝓤 H A mem run) → Walks 𝓤 H A parse-in.ended stayed (WpFn 𝓤 H C Λ code.function) (parse-in.clauses 𝓤 H A mem run)
   parse-in-walks C Λ fm known-copy known-parse = walked 𝓤 H A parse-in.ended stayed (parse-in.clauses 𝓤 H A mem run) (WpFn 𝓤 H C Λ code.function) (λ κs. (uint-vals w32, (slice-vals, (slice-vals, (uint-vals w32, (slice-vals, (slice-vals, tt)))))))
       (λ κs. (uint-tells w32, (shr-slice-tells (named 0) (κs .0) T.the-row, (mut-slice-tells (named 1) (κs .1 .0) u8, (uint-tells w32, (mut-slice-tells (named 2) (κs .1 .1 .0) u32, (mut-slice-tells (named 3) (κs .1 .1 .1 .0) u32, tt)))))))
       (λ κs qs bounds a g are. needs 𝓤 _ _
       (λ roomy. walk 𝓤 H A W mem run (κs .0) (κs .1 .0) (κs .1 .1 .0) (κs .1 .1 .1 .0) (qs .0) (qs .1 .0) (qs .1 .1 .0) (qs .1 .1 .1 .0) (a .0) (a .1 .0) (a .1 .1 .0) (a .1 .1 .1 .0) (a .1 .1 .1 .1 .0) (a .1 .1 .1 .1 .1 .0) (are .1 .1 .1 .0 .1) (are .0 .1)
       C Λ fm known-copy known-parse (are .1 .0 .0 .1) (are .1 .1 .0 .0 .1) (are .1 .1 .1 .1 .0 .0 .1) (are .1 .1 .1 .1 .1 .0 .0 .1) roomy))
 
-parse-in-meets : {M : Type 1} (𝓤 : URA M) (H : Heap 𝓤) (A : Atoms 𝓤) → Given 𝓤 H A → (mem : Memory → SProp 𝓤) (run : Routine → Fun 𝓤) (𝓣 : Tables 𝓤 H) → Triple 𝓤 (𝓣 .C #structs·copy) (Copy 𝓤 H A mem run) → Triple 𝓤 (𝓣 .C #structs·parse-records) (Parse 𝓤 H A mem run)
+parse-in-meets : {M : Type 1} (𝓤 : URA M) (H : Heap 𝓤) (A : Atoms 𝓤) → Given 𝓤 H A → (mem : Memory → SProp 𝓤) (run : Routine → Fun 𝓤) (𝓣 : Tables 𝓤 H) → Triple 𝓤 (𝓣 .C #struct-records·copy) (Copy 𝓤 H A mem run) → Triple 𝓤 (𝓣 .C #structs·parse-records) (Parse 𝓤 H A mem run)
     → Meets 𝓤 H A parse-in.signature (WpFn 𝓤 H (𝓣 .C) (𝓣 .Λ) code.function) (parse-in.spec 𝓤 H A mem run)
 parse-in-meets 𝓤 H A W mem run 𝓣 known-copy known-parse =
     walk-meets 𝓤 H A parse-in.ended stayed W
@@ -220,5 +220,5 @@ parse-in-spec 𝓤 H 𝓜 𝓖 𝓡 =
     entered 𝓤 H (tripleOf 𝓤 H (𝓖 .A) parse-in.signature (parse-in.spec 𝓤 H (𝓖 .A) (𝓜 .mem) (𝓡 .run)))
     (tables 𝓤 H 𝓜 𝓡 code.env .C) (tables 𝓤 H 𝓜 𝓡 code.env .Λ) #structs·parse-in code.function (code.unfolded 𝓤 H 𝓜 𝓡)
     (parse-in-meets 𝓤 H (𝓖 .A) (givenOf 𝓤 H 𝓜 𝓖) (𝓜 .mem) (𝓡 .run) (tablesOf 𝓤 H 𝓜 (tables 𝓤 H 𝓜 𝓡 code.env))
-    (cited 𝓤 H (Copy 𝓤 H (𝓖 .A) (𝓜 .mem) (𝓡 .run)) 𝓜 𝓡 code.env #structs·copy copy-def.routine code.calls-structs·copy (copy-thm.met 𝓤 H 𝓜 𝓖 𝓡))
+    (cited 𝓤 H (Copy 𝓤 H (𝓖 .A) (𝓜 .mem) (𝓡 .run)) 𝓜 𝓡 code.env #struct-records·copy copy-def.routine code.calls-struct-records·copy (copy-thm.met 𝓤 H 𝓜 𝓖 𝓡))
     (cited 𝓤 H (Parse 𝓤 H (𝓖 .A) (𝓜 .mem) (𝓡 .run)) 𝓜 𝓡 code.env #structs·parse-records parse-records-def.routine code.calls-structs·parse-records (parse-records-thm.met 𝓤 H 𝓜 𝓖 𝓡)))

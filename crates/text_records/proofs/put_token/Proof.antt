@@ -3,7 +3,7 @@
 use mathlib.Core.Path.{refl, sym, _∙_}
 use native.Mathlib.Omega.{arith}
 use Rattle.scan.specs.CodeLaws.{other-code, number-sign-start, carriage-return-start}
-use Rattle.text_records.specs.PutLaws.{put-is, put-alone}
+use Rattle.token_records.specs.PutLaws.{put-is, put-alone}
 use borrow.Author.Needs.{needs}
 use Rattle.text_records.proofs.put_token.Statement.{statement}
 use Rattle.text_records.proofs.put_token.Tie as tie

@@ -5,8 +5,8 @@ use native.Mathlib.Omega.{arith}
 use Prim.Native.Nat.{_-_}
 use lib.ListN.{length}
 use Rattle.places.specs.Places.{Passed}
-use Rattle.utf8.specs.Steps.{isAscii}
-use Rattle.utf8.specs.Utf8Laws.{ascii-passed}
+use Rattle.utf8_sequences.specs.Steps.{isAscii}
+use Rattle.utf8_sequences.specs.Utf8Laws.{ascii-passed}
 use borrow.Author.Needs.{needs}
 use Rattle.utf8.proofs.past_ascii.Statement.{statement}
 use Rattle.utf8.proofs.past_ascii.Tie as tie

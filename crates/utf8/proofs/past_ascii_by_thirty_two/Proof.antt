@@ -5,7 +5,7 @@ use native.Mathlib.Omega.{arith}
 use Prim.Native.Nat.{_-_}
 use lib.ListN.{length}
 use Rattle.places.specs.Places.{Passed}
-use Rattle.utf8.specs.Steps.{isAscii}
+use Rattle.utf8_sequences.specs.Steps.{isAscii}
 use Rattle.places.specs.PlaceLaws.{passed-none, passed-on}
 use borrow.Author.Needs.{needs}
 use Rattle.utf8.proofs.past_ascii_by_thirty_two.Statement.{statement}

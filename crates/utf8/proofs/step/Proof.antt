@@ -3,7 +3,7 @@
 use native.Mathlib.Omega.{arith}
 use lib.ListN.{getD}
 use borrow.Author.Tests.{le-leb}
-use Rattle.utf8.specs.Utf8Laws.{step-ascii, step-some, some-within}
+use Rattle.utf8_sequences.specs.Utf8Laws.{step-ascii, step-some, some-within}
 use borrow.Author.Needs.{needs}
 use Rattle.utf8.proofs.step.Statement.{statement}
 use Rattle.utf8.proofs.step.Tie as tie

@@ -4,7 +4,7 @@ use mathlib.Core.Path.{_≡_, ap, sym, _∙_}
 use native.Mathlib.Omega.{arith}
 use Prim.Native.Nat.{_-_, _≤_, _<_, _+_}
 use lib.ListN.{getD}
-use Rattle.utf8.specs.Steps.{isAscii}
+use Rattle.utf8_sequences.specs.Steps.{isAscii}
 use Rattle.places.specs.PlaceLaws.{Tallied, tally-begun, tally-on, tally-end, one-most}
 use borrow.Author.Needs.{needs}
 use Rattle.utf8.proofs.thirty_two_ascii.Statement.{statement}

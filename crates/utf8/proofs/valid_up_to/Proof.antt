@@ -5,8 +5,8 @@ use native.Mathlib.Omega.{arith}
 use Prim.Native.Nat.{_-_, _+_}
 use lib.ListN.{length, drop}
 use Rattle.places.specs.PlaceLaws.{Still, begun}
-use Rattle.utf8.specs.Utf8.{validUpTo}
-use Rattle.utf8.specs.Utf8Laws.{valid-start, valid-on, valid-stuck, valid-out}
+use Rattle.utf8_sequences.specs.Utf8.{validUpTo}
+use Rattle.utf8_sequences.specs.Utf8Laws.{valid-start, valid-on, valid-stuck, valid-out}
 use borrow.Author.Needs.{needs}
 use Rattle.utf8.proofs.valid_up_to.Statement.{statement}
 use Rattle.utf8.proofs.valid_up_to.Tie as tie

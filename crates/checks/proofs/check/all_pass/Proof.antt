@@ -6,7 +6,7 @@ use native.Mathlib.Omega.{arith}
 use Rattle.token.specs.Records.{count}
 use Rattle.token.specs.Check.{passed}
 use Rattle.token.specs.CheckLaws.{Summed, summed-begun, summed-end, from-start}
-use Rattle.checks.proofs.StretchLaws.{summed-by, refused-by}
+use Rattle.record_checks.proofs.StretchLaws.{summed-by, refused-by}
 use borrow.Author.Needs.{needs}
 use Rattle.checks.proofs.check.all_pass.Statement.{statement}
 use Rattle.checks.proofs.check.all_pass.Tie as tie

@@ -1,7 +1,7 @@
 -- The C structure is the one of what stands there.
 -- Made by ./proofs from Proof.tmpl: change that.
 use mathlib.Core.Path.{ap, _∙_}
-use Rattle.exports.specs.ExportedIndexes.{headerStructure}
+use Rattle.export_indexes.specs.ExportedIndexes.{headerStructure}
 use borrow.Author.Needs.{needs}
 use Rattle.deckmarten.proofs.indexes.deckmarten_header_at.Statement.{statement}
 use Rattle.deckmarten.proofs.indexes.deckmarten_header_at.Tie as tie

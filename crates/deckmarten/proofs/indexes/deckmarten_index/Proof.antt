@@ -1,6 +1,6 @@
 -- The C structure holds the index's answer.
 -- Made by ./proofs from Proof.tmpl: change that.
-use Rattle.exports.specs.IndexExports.{exports-index}
+use Rattle.export_indexes.specs.IndexExports.{exports-index}
 use borrow.Author.Needs.{needs}
 use Rattle.deckmarten.proofs.indexes.deckmarten_index.Statement.{statement}
 use Rattle.deckmarten.proofs.indexes.deckmarten_index.Tie as tie

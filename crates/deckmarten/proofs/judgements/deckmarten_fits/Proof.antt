@@ -1,6 +1,6 @@
 -- The C structure holds the verdict.
 -- Made by ./proofs from Proof.tmpl: change that.
-use Rattle.exports.specs.VerdictExports.{exports-verdict}
+use Rattle.export_texts.specs.VerdictExports.{exports-verdict}
 use borrow.Author.Needs.{needs}
 use Rattle.deckmarten.proofs.judgements.deckmarten_fits.Statement.{statement}
 use Rattle.deckmarten.proofs.judgements.deckmarten_fits.Tie as tie

@@ -1,6 +1,6 @@
 -- The C structure holds the check's answer.
 -- Made by ./proofs from Proof.tmpl: change that.
-use Rattle.exports.specs.MistakeExports.{exports-check}
+use Rattle.export_listings.specs.MistakeExports.{exports-check}
 use borrow.Author.Needs.{needs}
 use Rattle.deckmarten.proofs.listings.deckmarten_check_text.Statement.{statement}
 use Rattle.deckmarten.proofs.listings.deckmarten_check_text.Tie as tie

@@ -1,6 +1,6 @@
 -- The C structure holds the listing's answer.
 -- Made by ./proofs from Proof.tmpl: change that.
-use Rattle.exports.specs.MistakeExports.{exports-listing}
+use Rattle.export_listings.specs.MistakeExports.{exports-listing}
 use borrow.Author.Needs.{needs}
 use Rattle.deckmarten.proofs.listings.deckmarten_mistakes.Statement.{statement}
 use Rattle.deckmarten.proofs.listings.deckmarten_mistakes.Tie as tie

@@ -1,6 +1,6 @@
 -- The C structure holds the lexer's answer.
 -- Made by ./proofs from Proof.tmpl: change that.
-use Rattle.exports.specs.TextExportLaws.{exports-lexed}
+use Rattle.export_texts.specs.TextExportLaws.{exports-lexed}
 use borrow.Author.Needs.{needs}
 use Rattle.deckmarten.proofs.text.deckmarten_lex.Statement.{statement}
 use Rattle.deckmarten.proofs.text.deckmarten_lex.Tie as tie

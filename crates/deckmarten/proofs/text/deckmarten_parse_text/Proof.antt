@@ -1,6 +1,6 @@
 -- The C structure holds the joined entry's answer, or that to an unknown mode.
 -- Made by ./proofs from Proof.tmpl: change that.
-use Rattle.exports.specs.TextExportLaws.{exports-text, exports-unknown}
+use Rattle.export_texts.specs.TextExportLaws.{exports-text, exports-unknown}
 use borrow.Author.Needs.{needs}
 use Rattle.deckmarten.proofs.text.deckmarten_parse_text.Statement.{statement}
 use Rattle.deckmarten.proofs.text.deckmarten_parse_text.Tie as tie

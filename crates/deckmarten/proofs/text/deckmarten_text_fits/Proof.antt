@@ -1,6 +1,6 @@
 -- The C structure holds the verdict.
 -- Made by ./proofs from Proof.tmpl: change that.
-use Rattle.exports.specs.TextExportLaws.{exports-text-verdict}
+use Rattle.export_texts.specs.TextExportLaws.{exports-text-verdict}
 use borrow.Author.Needs.{needs}
 use Rattle.deckmarten.proofs.text.deckmarten_text_fits.Statement.{statement}
 use Rattle.deckmarten.proofs.text.deckmarten_text_fits.Tie as tie

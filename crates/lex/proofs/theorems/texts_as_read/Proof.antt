@@ -2,7 +2,7 @@
 -- Made by ./proofs from Proof.tmpl: change that.
 use mathlib.Core.Path.{refl}
 use Rattle.places.specs.Places.{peeks}
-use Rattle.utf8.specs.Utf8.{fits, validFrom}
+use Rattle.utf8_sequences.specs.Utf8.{fits, validFrom}
 use Rattle.scan.specs.Lexer.{startOf, until, lexLiteralString, lexMlLiteralString, escapable, lexBasicString, lexMlBasicString, lexer, tokensOf}
 use Rattle.lex.specs.Texts.{texts}
 use Rattle.lex.proofs.theorems.texts_as_read.Statement.{statement}

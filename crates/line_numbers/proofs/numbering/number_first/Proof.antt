@@ -3,8 +3,8 @@
 use native.Mathlib.Omega.{arith}
 use Prim.Native.Nat.{_-_}
 use lib.ListN.{length-set}
-use Rattle.line_numbers.specs.PointLaws.{counted-own}
-use Rattle.line_numbers.specs.CommaLaws.{known-own}
+use Rattle.line_points.specs.PointLaws.{counted-own}
+use Rattle.blamed_commas.specs.CommaLaws.{known-own}
 use Rattle.line_numbers.proofs.NumberingLaws.{Numbering, numbering-begun, error-room, numbering-on, numbering-end}
 use borrow.Author.Needs.{needs}
 use Rattle.line_numbers.proofs.numbering.number_first.Statement.{statement}

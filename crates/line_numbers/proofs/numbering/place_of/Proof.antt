@@ -1,7 +1,7 @@
 -- By the mark, and by whether the comma counts.
 -- Made by ./proofs from Proof.tmpl: change that.
-use Rattle.line_numbers.specs.PointLaws.{counted-own, numbered-of}
-use Rattle.line_numbers.specs.CommaLaws.{known-own, known-of}
+use Rattle.line_points.specs.PointLaws.{counted-own, numbered-of}
+use Rattle.blamed_commas.specs.CommaLaws.{known-own, known-of}
 use Rattle.line_numbers.proofs.NumberingLaws.{places-known, places-comma, places-none}
 use borrow.Author.Needs.{needs}
 use Rattle.line_numbers.proofs.numbering.place_of.Statement.{statement}

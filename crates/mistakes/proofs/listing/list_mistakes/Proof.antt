@@ -4,7 +4,7 @@
 use native.Mathlib.Omega.{arith}
 use mathlib.Core.Path.{_∙_}
 use Prim.Native.Nat.{_-_}
-use Rattle.line_numbers.specs.PointLaws.{counted-begun}
+use Rattle.line_points.specs.PointLaws.{counted-begun}
 use Rattle.mistakes.proofs.ListingLaws.{Ongoing, listing-begun, listing-on, listing-end, listing-filled, on-piece, next-within, notes-of, counted-own}
 use borrow.Author.Needs.{needs}
 use Rattle.mistakes.proofs.listing.list_mistakes.Statement.{statement}

@@ -15,9 +15,10 @@ use Rattle.rules.specs.Nest.{onOpen}
 use Rattle.output.specs.Pour.{bufs}
 use Rattle.output.specs.TurnLaws.{Turns, turns-begun}
 use Rattle.inline_actions.specs.Actions.{actionTable}
+use Rattle.array_runs.specs.TurnedLaws.{turn-moved, turn-next}
 use Rattle.nest.specs.NestedLaws.{nested-item, nested-as}
 use Rattle.nest.proofs.StackLaws.{Stacked, stack-begun, stack-moved, stack-over-moved, stack-array-moved, stack-table-moved, stack-next, stack-over, stack-pop, stack-push, stack-none, stack-array-again, stack-array-stop, stack-table-again, stack-table-stop}
-use Rattle.nest.proofs.NestLaws.{turn-moved, turn-next, turn-over, array-moved, table-moved, array-again, array-stop, table-again, table-stop, open-array, open-table, no-level}
+use Rattle.nest.proofs.NestLaws.{turn-over, array-moved, table-moved, array-again, array-stop, table-again, table-stop, open-array, open-table, no-level}
 use borrow.Author.Needs.{needs}
 use borrow.Fn.Kinds.{In}
 use borrow.Fn.PlainCycle.{Measures, is, falls, and}
@@ -27,10 +28,11 @@ use Rattle.nest.proofs.nest.+on_array_open+on_inline_table_open.Lts-on_
 use Rattle.nest.proofs.nest.on_inline_table_open.Reads as on-inline-table-open
 use Rattle.nest.proofs.nest.on_inline_table_open.Kinds as on-inline-table-open-kinds
 use Rattle.nest.proofs.nest.+on_array_open+on_inline_table_open.Lts-on_inline_table_open as on-inline-table-open-lts
+use Rattle.array_runs.proofs.turns.array_turns.Reads as array-turns-reads
 use Rattle.inline_actions.proofs.action_table.Reads as action-table-reads
 use Rattle.inline_turns.proofs.inline_table.inline_table_turn.Reads as inline-table-turn-reads
-use Rattle.nest.proofs.turns.array_turns.Reads as array-turns-reads
-use Rattle.output.proofs.emitting.emit.Reads as emit-reads
+use Rattle.openings.proofs.array_open.Reads as array-open-reads
+use Rattle.openings.proofs.table_open.Reads as table-open-reads
 use Rattle.nest.proofs.nest.+on_array_open+on_inline_table_open.{statement}
 use Rattle.nest.proofs.nest.+on_array_open+on_inline_table_open.Tie.{close}
 
@@ -53,16 +55,16 @@ abbrev on-inline-table-open-below : ℕ → In 3 on-inline-table-open-kinds.ps
 on-inline-table-open-below t = and 3 on-inline-table-open-kinds.ps (falls 3 on-inline-table-open-kinds.ps _<_ μ-on-inline-table-open t) on-inline-table-open.Pre
 
 abbrev on-array-open-Inv-loop : on-array-open-lts.InvT-loop
-on-array-open-Inv-loop s events₀ errors₀ levels options n₀ cur₀ state₀ left₀ inner₀ starts₀ ends₀ depth₀ events errors n cur state left inner starts ends depth =
-    Stacked s levels (looping (arrayTurn (span (inner₀ .start) (inner₀ .end)) (onOpen left₀)) state₀ (tokensAt s cur₀)) (bufs events₀ errors₀ n₀) cur₀ starts ends depth left (inner .start) (inner .end) state (bufs events errors n) cur
+on-array-open-Inv-loop s events₀ errors₀ options n₀ cur₀ state₀ left₀ inner₀ starts₀ ends₀ depth₀ events errors n cur state left inner starts ends depth =
+    Stacked s left₀ (looping (arrayTurn (span (inner₀ .start) (inner₀ .end)) (onOpen left₀)) state₀ (tokensAt s cur₀)) (bufs events₀ errors₀ n₀) cur₀ starts ends depth left (inner .start) (inner .end) state (bufs events errors n) cur
     × (length starts ≡ 16) × (length ends ≡ 16) × (length events ≡ length events₀) × (length errors ≡ length errors₀) × (depth ≤ 16)
 
 abbrev on-array-open-μ-loop : on-array-open-lts.MeasureT-loop
-on-array-open-μ-loop s events₀ errors₀ levels options n₀ cur₀ state₀ left₀ inner₀ starts₀ ends₀ depth₀ events errors n cur state left inner starts ends depth = (count s - cur .at) + (count s - cur .at) + depth
+on-array-open-μ-loop s events₀ errors₀ options n₀ cur₀ state₀ left₀ inner₀ starts₀ ends₀ depth₀ events errors n cur state left inner starts ends depth = (count s - cur .at) + (count s - cur .at) + depth
 
 on-array-open-returns : (t : ℕ) → on-array-open-lts.Need-returns (
-  emit-reads.Asked,
-  emit-reads.Learnt,
+  array-open-reads.Asked,
+  array-open-reads.Learnt,
   array-turns-reads.Asked,
   array-turns-reads.Learnt,
   on-array-open-below t,
@@ -70,11 +72,11 @@ on-array-open-returns : (t : ℕ) → on-array-open-lts.Need-returns (
   on-inline-table-open-below t,
   on-inline-table-open.Post,
 ) (on-array-open-at t) on-array-open.Post on-array-open-Inv-loop on-array-open-μ-loop
-on-array-open-returns t c = no-level ((c .before .before .before .before .before .args) .settings .levels) Bracket.Square _ _ _ _ _ _ ((c .if1) .taken) ((c .before .before .before .before .before .pre) .1)
+on-array-open-returns t c = no-level ((c .before .before .before .before .before .before .args) .settings .levels) Bracket.Square _ _ _ _ _ _ ((c .if1) .taken) ((c .before .before .before .before .before .before .pre) .1)
 
-on-array-open-emit-requires : (t : ℕ) → on-array-open-lts.Need-emit-requires (
-  emit-reads.Asked,
-  emit-reads.Learnt,
+on-array-open-array-open-requires : (t : ℕ) → on-array-open-lts.Need-array-open-requires (
+  array-open-reads.Asked,
+  array-open-reads.Learnt,
   array-turns-reads.Asked,
   array-turns-reads.Learnt,
   on-array-open-below t,
@@ -82,11 +84,11 @@ on-array-open-emit-requires : (t : ℕ) → on-array-open-lts.Need-emit-requires
   on-inline-table-open-below t,
   on-inline-table-open.Post,
 ) (on-array-open-at t) on-array-open.Post on-array-open-Inv-loop on-array-open-μ-loop
-on-array-open-emit-requires t c κs = search needs
+on-array-open-array-open-requires t c κs = search needs
 
 on-array-open-sub-left : (t : ℕ) → on-array-open-lts.Need-sub-left (
-  emit-reads.Asked,
-  emit-reads.Learnt,
+  array-open-reads.Asked,
+  array-open-reads.Learnt,
   array-turns-reads.Asked,
   array-turns-reads.Learnt,
   on-array-open-below t,
@@ -94,11 +96,11 @@ on-array-open-sub-left : (t : ℕ) → on-array-open-lts.Need-sub-left (
   on-inline-table-open-below t,
   on-inline-table-open.Post,
 ) (on-array-open-at t) on-array-open.Post on-array-open-Inv-loop on-array-open-μ-loop
-on-array-open-sub-left t c = omega (arith, (c .before .before .before .before .if1) .left)
+on-array-open-sub-left t c = omega (arith, (c .before .before .before .before .before .if1) .left)
 
 on-array-open-loop-holds : (t : ℕ) → on-array-open-lts.Need-loop-holds (
-  emit-reads.Asked,
-  emit-reads.Learnt,
+  array-open-reads.Asked,
+  array-open-reads.Learnt,
   array-turns-reads.Asked,
   array-turns-reads.Learnt,
   on-array-open-below t,
@@ -106,11 +108,11 @@ on-array-open-loop-holds : (t : ℕ) → on-array-open-lts.Need-loop-holds (
   on-inline-table-open-below t,
   on-inline-table-open.Post,
 ) (on-array-open-at t) on-array-open.Post on-array-open-Inv-loop on-array-open-μ-loop
-on-array-open-loop-holds t c = (stack-begun _ _ _ _ _ _ _ _ _ ((c .before .before .before .before .if1) .left) ((c .before .before .before .before .before .before .before .before .before .pre) .1), refl, refl, refl, refl, omega arith)
+on-array-open-loop-holds t c = (stack-begun _ _ _ _ _ _ _ _ _ ((c .before .before .before .before .before .before .before .before .before .before .before .pre) .1), refl, refl, refl, refl, omega arith)
 
 on-array-open-array-turns-requires : (t : ℕ) → on-array-open-lts.Need-array-turns-requires (
-  emit-reads.Asked,
-  emit-reads.Learnt,
+  array-open-reads.Asked,
+  array-open-reads.Learnt,
   array-turns-reads.Asked,
   array-turns-reads.Learnt,
   on-array-open-below t,
@@ -121,8 +123,8 @@ on-array-open-array-turns-requires : (t : ℕ) → on-array-open-lts.Need-array-
 on-array-open-array-turns-requires t c κs = ((c .before .before .loop) .inv .0) .good
 
 on-array-open-enum-told : (t : ℕ) → on-array-open-lts.Need-enum-told (
-  emit-reads.Asked,
-  emit-reads.Learnt,
+  array-open-reads.Asked,
+  array-open-reads.Learnt,
   array-turns-reads.Asked,
   array-turns-reads.Learnt,
   on-array-open-below t,
@@ -133,8 +135,8 @@ on-array-open-enum-told : (t : ℕ) → on-array-open-lts.Need-enum-told (
 on-array-open-enum-told t c = search needs
 
 on-array-open-loop-less : (t : ℕ) → on-array-open-lts.Need-loop-less (
-  emit-reads.Asked,
-  emit-reads.Learnt,
+  array-open-reads.Asked,
+  array-open-reads.Learnt,
   array-turns-reads.Asked,
   array-turns-reads.Learnt,
   on-array-open-below t,
@@ -145,8 +147,8 @@ on-array-open-loop-less : (t : ℕ) → on-array-open-lts.Need-loop-less (
 on-array-open-loop-less t c = omega (arith, stack-moved ((c .before .before .before .before .before .before .before .before .before .before .before .before .loop) .inv .0) _ ((c .before .before .before .before .before .before .before .before .before .array-turns) .ensures) ((c .enum-told) .given .1), (c .before .before .before .before .before .before .before .before .before .array-turns) .ensures .good .low)
 
 on-array-open-loop-again : (t : ℕ) → on-array-open-lts.Need-loop-again (
-  emit-reads.Asked,
-  emit-reads.Learnt,
+  array-open-reads.Asked,
+  array-open-reads.Learnt,
   array-turns-reads.Asked,
   array-turns-reads.Learnt,
   on-array-open-below t,
@@ -157,8 +159,8 @@ on-array-open-loop-again : (t : ℕ) → on-array-open-lts.Need-loop-again (
 on-array-open-loop-again t c = (stack-next ((c .before .before .before .before .before .before .before .before .before .before .before .before .loop) .inv .0) _ ((c .before .before .before .before .before .before .before .before .before .array-turns) .ensures) ((c .enum-told) .given .1), (c .before .before .before .before .before .before .before .before .before .before .before .before .loop) .inv .1, (c .before .before .before .before .before .before .before .before .before .before .before .before .loop) .inv .2, ((c .before .before .before .before .before .before .before .before .before .array-turns .kept .1 .1 .1 .1 .1 .0)) ∙ (c .before .before .before .before .before .before .before .before .before .before .before .before .loop) .inv .3, ((c .before .before .before .before .before .before .before .before .before .array-turns .kept .1 .1 .1 .1 .1 .1 .0)) ∙ (c .before .before .before .before .before .before .before .before .before .before .before .before .loop) .inv .4, omega (arith, (c .before .before .before .before .before .before .before .before .before .before .before .before .loop) .inv .5))
 
 on-array-open-enum-told-2 : (t : ℕ) → on-array-open-lts.Need-enum-told-2 (
-  emit-reads.Asked,
-  emit-reads.Learnt,
+  array-open-reads.Asked,
+  array-open-reads.Learnt,
   array-turns-reads.Asked,
   array-turns-reads.Learnt,
   on-array-open-below t,
@@ -169,8 +171,8 @@ on-array-open-enum-told-2 : (t : ℕ) → on-array-open-lts.Need-enum-told-2 (
 on-array-open-enum-told-2 t c = search needs
 
 on-array-open-same-length : (t : ℕ) → on-array-open-lts.Need-same-length (
-  emit-reads.Asked,
-  emit-reads.Learnt,
+  array-open-reads.Asked,
+  array-open-reads.Learnt,
   array-turns-reads.Asked,
   array-turns-reads.Learnt,
   on-array-open-below t,
@@ -178,11 +180,11 @@ on-array-open-same-length : (t : ℕ) → on-array-open-lts.Need-same-length (
   on-inline-table-open-below t,
   on-inline-table-open.Post,
 ) (on-array-open-at t) on-array-open.Post on-array-open-Inv-loop on-array-open-μ-loop
-on-array-open-same-length t c = ((c .before .before .before .before .before .before .before .before .before .before .array-turns .kept .1 .1 .1 .1 .1 .0)) ∙ (c .before .before .before .before .before .before .before .before .before .before .before .before .before .loop) .inv .3 ∙ (c .before .before .before .before .before .before .before .before .before .before .before .before .before .before .before .before .emit) .kept .0
+on-array-open-same-length t c = ((c .before .before .before .before .before .before .before .before .before .before .array-turns .kept .1 .1 .1 .1 .1 .0)) ∙ (c .before .before .before .before .before .before .before .before .before .before .before .before .before .loop) .inv .3 ∙ (c .before .before .before .before .before .before .before .before .before .before .before .before .before .before .before .before .before .array-open) .kept .0
 
 on-array-open-same-length-2 : (t : ℕ) → on-array-open-lts.Need-same-length-2 (
-  emit-reads.Asked,
-  emit-reads.Learnt,
+  array-open-reads.Asked,
+  array-open-reads.Learnt,
   array-turns-reads.Asked,
   array-turns-reads.Learnt,
   on-array-open-below t,
@@ -193,8 +195,8 @@ on-array-open-same-length-2 : (t : ℕ) → on-array-open-lts.Need-same-length-2
 on-array-open-same-length-2 t c = ((c .before .before .before .before .before .before .before .before .before .before .array-turns .kept .1 .1 .1 .1 .1 .1 .0)) ∙ (c .before .before .before .before .before .before .before .before .before .before .before .before .before .loop) .inv .4
 
 on-array-open-returns-2 : (t : ℕ) → on-array-open-lts.Need-returns-2 (
-  emit-reads.Asked,
-  emit-reads.Learnt,
+  array-open-reads.Asked,
+  array-open-reads.Learnt,
   array-turns-reads.Asked,
   array-turns-reads.Learnt,
   on-array-open-below t,
@@ -202,11 +204,11 @@ on-array-open-returns-2 : (t : ℕ) → on-array-open-lts.Need-returns-2 (
   on-inline-table-open-below t,
   on-inline-table-open.Post,
 ) (on-array-open-at t) on-array-open.Post on-array-open-Inv-loop on-array-open-μ-loop
-on-array-open-returns-2 t c = nested-as (open-array ((c .before .before .before .before .before .before .before .before .before .before .before .before .before .before .before .before .before .before .before .before .before .before .before .args) .settings .levels) _ _ _ ((c .before .before .before .before .before .before .before .before .before .before .before .before .before .before .before .before .before .before .if1) .left)) (nested-item _ _ (λ all. (c .before .before .before .before .before .before .before .before .before .before .before .before .before .before .before .before .emit) .ensures all _) (stack-over ((c .before .before .before .before .before .before .before .before .before .before .before .before .before .loop) .inv .0) _ ((c .before .before .before .before .before .before .before .before .before .before .array-turns) .ensures) ((c .before .enum-told2) .given .1) ((c .if2) .taken)))
+on-array-open-returns-2 t c = nested-as (open-array ((c .before .before .before .before .before .before .before .before .before .before .before .before .before .before .before .before .before .before .before .before .before .before .before .before .before .args) .settings .levels) _ _ _ ((c .before .before .before .before .before .before .before .before .before .before .before .before .before .before .before .before .before .before .before .if1) .left)) (nested-item _ _ (λ all. (c .before .before .before .before .before .before .before .before .before .before .before .before .before .before .before .before .before .array-open) .ensures all _) (stack-over ((c .before .before .before .before .before .before .before .before .before .before .before .before .before .loop) .inv .0) _ ((c .before .before .before .before .before .before .before .before .before .before .array-turns) .ensures) ((c .before .enum-told2) .given .1) ((c .if2) .taken)))
 
 on-array-open-sub-depth : (t : ℕ) → on-array-open-lts.Need-sub-depth (
-  emit-reads.Asked,
-  emit-reads.Learnt,
+  array-open-reads.Asked,
+  array-open-reads.Learnt,
   array-turns-reads.Asked,
   array-turns-reads.Learnt,
   on-array-open-below t,
@@ -217,8 +219,8 @@ on-array-open-sub-depth : (t : ℕ) → on-array-open-lts.Need-sub-depth (
 on-array-open-sub-depth t c = omega (arith, (c .if2) .left)
 
 on-array-open-add-left : (t : ℕ) → on-array-open-lts.Need-add-left (
-  emit-reads.Asked,
-  emit-reads.Learnt,
+  array-open-reads.Asked,
+  array-open-reads.Learnt,
   array-turns-reads.Asked,
   array-turns-reads.Learnt,
   on-array-open-below t,
@@ -226,11 +228,11 @@ on-array-open-add-left : (t : ℕ) → on-array-open-lts.Need-add-left (
   on-inline-table-open-below t,
   on-inline-table-open.Post,
 ) (on-array-open-at t) on-array-open.Post on-array-open-Inv-loop on-array-open-μ-loop
-on-array-open-add-left t c = omega (arith, ((c .before .before .before .before .before .before .before .before .before .before .before .before .before .loop) .inv .0) .sum, (c .if2) .left, (c .before .before .before .before .before .before .before .before .before .before .before .before .before .before .before .before .before .before .before .before .before .before .before .good))
+on-array-open-add-left t c = omega (arith, ((c .before .before .before .before .before .before .before .before .before .before .before .before .before .loop) .inv .0) .sum, (c .if2) .left, (c .before .before .before .before .before .before .before .before .before .before .before .before .before .before .before .before .before .before .before .before .before .before .before .before .before .good))
 
-on-array-open-mul-t45 : (t : ℕ) → on-array-open-lts.Need-mul-t45 (
-  emit-reads.Asked,
-  emit-reads.Learnt,
+on-array-open-mul-inner : (t : ℕ) → on-array-open-lts.Need-mul-inner (
+  array-open-reads.Asked,
+  array-open-reads.Learnt,
   array-turns-reads.Asked,
   array-turns-reads.Learnt,
   on-array-open-below t,
@@ -238,11 +240,11 @@ on-array-open-mul-t45 : (t : ℕ) → on-array-open-lts.Need-mul-t45 (
   on-inline-table-open-below t,
   on-inline-table-open.Post,
 ) (on-array-open-at t) on-array-open.Post on-array-open-Inv-loop on-array-open-μ-loop
-on-array-open-mul-t45 t c = record { fits = omega (arith, (c .before .before .before .before .before .before .before .before .before .before .before .before .before .loop) .inv .5) }
+on-array-open-mul-inner t c = record { fits = omega (arith, (c .before .before .before .before .before .before .before .before .before .before .before .before .before .loop) .inv .5) }
 
-on-array-open-array-read-t48 : (t : ℕ) → on-array-open-lts.Need-array-read-t48 (
-  emit-reads.Asked,
-  emit-reads.Learnt,
+on-array-open-array-read-inner : (t : ℕ) → on-array-open-lts.Need-array-read-inner (
+  array-open-reads.Asked,
+  array-open-reads.Learnt,
   array-turns-reads.Asked,
   array-turns-reads.Learnt,
   on-array-open-below t,
@@ -250,11 +252,11 @@ on-array-open-array-read-t48 : (t : ℕ) → on-array-open-lts.Need-array-read-t
   on-inline-table-open-below t,
   on-inline-table-open.Post,
 ) (on-array-open-at t) on-array-open.Post on-array-open-Inv-loop on-array-open-μ-loop
-on-array-open-array-read-t48 t c = omega (arith, (c .before .before .before .before .before .before .before .before .before .before .before .before .before .loop) .inv .5, (c .if2) .left)
+on-array-open-array-read-inner t c = omega (arith, (c .before .before .before .before .before .before .before .before .before .before .before .before .before .loop) .inv .5, (c .if2) .left)
 
-on-array-open-mul-t49 : (t : ℕ) → on-array-open-lts.Need-mul-t49 (
-  emit-reads.Asked,
-  emit-reads.Learnt,
+on-array-open-mul-inner-2 : (t : ℕ) → on-array-open-lts.Need-mul-inner-2 (
+  array-open-reads.Asked,
+  array-open-reads.Learnt,
   array-turns-reads.Asked,
   array-turns-reads.Learnt,
   on-array-open-below t,
@@ -262,11 +264,11 @@ on-array-open-mul-t49 : (t : ℕ) → on-array-open-lts.Need-mul-t49 (
   on-inline-table-open-below t,
   on-inline-table-open.Post,
 ) (on-array-open-at t) on-array-open.Post on-array-open-Inv-loop on-array-open-μ-loop
-on-array-open-mul-t49 t c = record { fits = omega (arith, (c .before .before .before .before .before .before .before .before .before .before .before .before .before .loop) .inv .5) }
+on-array-open-mul-inner-2 t c = record { fits = omega (arith, (c .before .before .before .before .before .before .before .before .before .before .before .before .before .loop) .inv .5) }
 
-on-array-open-array-read-t52 : (t : ℕ) → on-array-open-lts.Need-array-read-t52 (
-  emit-reads.Asked,
-  emit-reads.Learnt,
+on-array-open-array-read-inner-2 : (t : ℕ) → on-array-open-lts.Need-array-read-inner-2 (
+  array-open-reads.Asked,
+  array-open-reads.Learnt,
   array-turns-reads.Asked,
   array-turns-reads.Learnt,
   on-array-open-below t,
@@ -274,11 +276,11 @@ on-array-open-array-read-t52 : (t : ℕ) → on-array-open-lts.Need-array-read-t
   on-inline-table-open-below t,
   on-inline-table-open.Post,
 ) (on-array-open-at t) on-array-open.Post on-array-open-Inv-loop on-array-open-μ-loop
-on-array-open-array-read-t52 t c = omega (arith, (c .before .before .before .before .before .before .before .before .before .before .before .before .before .loop) .inv .5, (c .if2) .left)
+on-array-open-array-read-inner-2 t c = omega (arith, (c .before .before .before .before .before .before .before .before .before .before .before .before .before .loop) .inv .5, (c .if2) .left)
 
 on-array-open-loop-less-2 : (t : ℕ) → on-array-open-lts.Need-loop-less-2 (
-  emit-reads.Asked,
-  emit-reads.Learnt,
+  array-open-reads.Asked,
+  array-open-reads.Learnt,
   array-turns-reads.Asked,
   array-turns-reads.Learnt,
   on-array-open-below t,
@@ -289,8 +291,8 @@ on-array-open-loop-less-2 : (t : ℕ) → on-array-open-lts.Need-loop-less-2 (
 on-array-open-loop-less-2 t c = omega (arith, stack-over-moved ((c .before .before .before .before .before .before .before .before .before .before .before .before .before .loop) .inv .0) _ ((c .before .before .before .before .before .before .before .before .before .before .array-turns) .ensures) ((c .before .enum-told2) .given .1), (c .before .before .before .before .before .before .before .before .before .before .array-turns) .ensures .good .low, (c .if2) .left)
 
 on-array-open-loop-again-2 : (t : ℕ) → on-array-open-lts.Need-loop-again-2 (
-  emit-reads.Asked,
-  emit-reads.Learnt,
+  array-open-reads.Asked,
+  array-open-reads.Learnt,
   array-turns-reads.Asked,
   array-turns-reads.Learnt,
   on-array-open-below t,
@@ -301,8 +303,8 @@ on-array-open-loop-again-2 : (t : ℕ) → on-array-open-lts.Need-loop-again-2 (
 on-array-open-loop-again-2 t c = (stack-pop ((c .before .before .before .before .before .before .before .before .before .before .before .before .before .loop) .inv .0) _ ((c .before .before .before .before .before .before .before .before .before .before .array-turns) .ensures) ((c .before .enum-told2) .given .1) ((c .if2) .left), (c .before .before .before .before .before .before .before .before .before .before .before .before .before .loop) .inv .1, (c .before .before .before .before .before .before .before .before .before .before .before .before .before .loop) .inv .2, ((c .before .before .before .before .before .before .before .before .before .before .array-turns .kept .1 .1 .1 .1 .1 .0)) ∙ (c .before .before .before .before .before .before .before .before .before .before .before .before .before .loop) .inv .3, ((c .before .before .before .before .before .before .before .before .before .before .array-turns .kept .1 .1 .1 .1 .1 .1 .0)) ∙ (c .before .before .before .before .before .before .before .before .before .before .before .before .before .loop) .inv .4, omega (arith, (c .before .before .before .before .before .before .before .before .before .before .before .before .before .loop) .inv .5))
 
 on-array-open-enum-known-x : (t : ℕ) → on-array-open-lts.Need-enum-known-x (
-  emit-reads.Asked,
-  emit-reads.Learnt,
+  array-open-reads.Asked,
+  array-open-reads.Learnt,
   array-turns-reads.Asked,
   array-turns-reads.Learnt,
   on-array-open-below t,
@@ -313,8 +315,8 @@ on-array-open-enum-known-x : (t : ℕ) → on-array-open-lts.Need-enum-known-x (
 on-array-open-enum-known-x t c = search needs
 
 on-array-open-same-length-3 : (t : ℕ) → on-array-open-lts.Need-same-length-3 (
-  emit-reads.Asked,
-  emit-reads.Learnt,
+  array-open-reads.Asked,
+  array-open-reads.Learnt,
   array-turns-reads.Asked,
   array-turns-reads.Learnt,
   on-array-open-below t,
@@ -322,11 +324,11 @@ on-array-open-same-length-3 : (t : ℕ) → on-array-open-lts.Need-same-length-3
   on-inline-table-open-below t,
   on-inline-table-open.Post,
 ) (on-array-open-at t) on-array-open.Post on-array-open-Inv-loop on-array-open-μ-loop
-on-array-open-same-length-3 t c = ((c .before .before .before .before .before .before .before .before .before .before .before .array-turns .kept .1 .1 .1 .1 .1 .0)) ∙ (c .before .before .before .before .before .before .before .before .before .before .before .before .before .before .loop) .inv .3 ∙ (c .before .before .before .before .before .before .before .before .before .before .before .before .before .before .before .before .before .emit) .kept .0
+on-array-open-same-length-3 t c = ((c .before .before .before .before .before .before .before .before .before .before .before .array-turns .kept .1 .1 .1 .1 .1 .0)) ∙ (c .before .before .before .before .before .before .before .before .before .before .before .before .before .before .loop) .inv .3 ∙ (c .before .before .before .before .before .before .before .before .before .before .before .before .before .before .before .before .before .before .array-open) .kept .0
 
 on-array-open-same-length-4 : (t : ℕ) → on-array-open-lts.Need-same-length-4 (
-  emit-reads.Asked,
-  emit-reads.Learnt,
+  array-open-reads.Asked,
+  array-open-reads.Learnt,
   array-turns-reads.Asked,
   array-turns-reads.Learnt,
   on-array-open-below t,
@@ -337,8 +339,8 @@ on-array-open-same-length-4 : (t : ℕ) → on-array-open-lts.Need-same-length-4
 on-array-open-same-length-4 t c = ((c .before .before .before .before .before .before .before .before .before .before .before .array-turns .kept .1 .1 .1 .1 .1 .1 .0)) ∙ (c .before .before .before .before .before .before .before .before .before .before .before .before .before .before .loop) .inv .4
 
 on-array-open-returns-3 : (t : ℕ) → on-array-open-lts.Need-returns-3 (
-  emit-reads.Asked,
-  emit-reads.Learnt,
+  array-open-reads.Asked,
+  array-open-reads.Learnt,
   array-turns-reads.Asked,
   array-turns-reads.Learnt,
   on-array-open-below t,
@@ -346,11 +348,11 @@ on-array-open-returns-3 : (t : ℕ) → on-array-open-lts.Need-returns-3 (
   on-inline-table-open-below t,
   on-inline-table-open.Post,
 ) (on-array-open-at t) on-array-open.Post on-array-open-Inv-loop on-array-open-μ-loop
-on-array-open-returns-3 t c = nested-as (open-array ((c .before .before .before .before .before .before .before .before .before .before .before .before .before .before .before .before .before .before .before .before .before .before .before .before .args) .settings .levels) _ _ _ ((c .before .before .before .before .before .before .before .before .before .before .before .before .before .before .before .before .before .before .before .if1) .left)) (nested-item _ _ (λ all. (c .before .before .before .before .before .before .before .before .before .before .before .before .before .before .before .before .before .emit) .ensures all _) (stack-none ((c .before .before .before .before .before .before .before .before .before .before .before .before .before .before .loop) .inv .0) _ ((c .before .before .before .before .before .before .before .before .before .before .before .array-turns) .ensures) _ ((c .before .before .x) .given .1) ((c .if3) .taken)))
+on-array-open-returns-3 t c = nested-as (open-array ((c .before .before .before .before .before .before .before .before .before .before .before .before .before .before .before .before .before .before .before .before .before .before .before .before .before .before .args) .settings .levels) _ _ _ ((c .before .before .before .before .before .before .before .before .before .before .before .before .before .before .before .before .before .before .before .before .if1) .left)) (nested-item _ _ (λ all. (c .before .before .before .before .before .before .before .before .before .before .before .before .before .before .before .before .before .before .array-open) .ensures all _) (stack-none ((c .before .before .before .before .before .before .before .before .before .before .before .before .before .before .loop) .inv .0) _ ((c .before .before .before .before .before .before .before .before .before .before .before .array-turns) .ensures) _ ((c .before .before .x) .given .1) ((c .if3) .taken)))
 
 on-array-open-mul-starts : (t : ℕ) → on-array-open-lts.Need-mul-starts (
-  emit-reads.Asked,
-  emit-reads.Learnt,
+  array-open-reads.Asked,
+  array-open-reads.Learnt,
   array-turns-reads.Asked,
   array-turns-reads.Learnt,
   on-array-open-below t,
@@ -361,8 +363,8 @@ on-array-open-mul-starts : (t : ℕ) → on-array-open-lts.Need-mul-starts (
 on-array-open-mul-starts t c = search needs
 
 on-array-open-array-write-starts : (t : ℕ) → on-array-open-lts.Need-array-write-starts (
-  emit-reads.Asked,
-  emit-reads.Learnt,
+  array-open-reads.Asked,
+  array-open-reads.Learnt,
   array-turns-reads.Asked,
   array-turns-reads.Learnt,
   on-array-open-below t,
@@ -373,8 +375,8 @@ on-array-open-array-write-starts : (t : ℕ) → on-array-open-lts.Need-array-wr
 on-array-open-array-write-starts t c = search needs
 
 on-array-open-mul-ends : (t : ℕ) → on-array-open-lts.Need-mul-ends (
-  emit-reads.Asked,
-  emit-reads.Learnt,
+  array-open-reads.Asked,
+  array-open-reads.Learnt,
   array-turns-reads.Asked,
   array-turns-reads.Learnt,
   on-array-open-below t,
@@ -385,8 +387,8 @@ on-array-open-mul-ends : (t : ℕ) → on-array-open-lts.Need-mul-ends (
 on-array-open-mul-ends t c = search needs
 
 on-array-open-array-write-ends : (t : ℕ) → on-array-open-lts.Need-array-write-ends (
-  emit-reads.Asked,
-  emit-reads.Learnt,
+  array-open-reads.Asked,
+  array-open-reads.Learnt,
   array-turns-reads.Asked,
   array-turns-reads.Learnt,
   on-array-open-below t,
@@ -397,8 +399,8 @@ on-array-open-array-write-ends : (t : ℕ) → on-array-open-lts.Need-array-writ
 on-array-open-array-write-ends t c = search needs
 
 on-array-open-add-depth : (t : ℕ) → on-array-open-lts.Need-add-depth (
-  emit-reads.Asked,
-  emit-reads.Learnt,
+  array-open-reads.Asked,
+  array-open-reads.Learnt,
   array-turns-reads.Asked,
   array-turns-reads.Learnt,
   on-array-open-below t,
@@ -409,8 +411,8 @@ on-array-open-add-depth : (t : ℕ) → on-array-open-lts.Need-add-depth (
 on-array-open-add-depth t c = search needs
 
 on-array-open-sub-left-2 : (t : ℕ) → on-array-open-lts.Need-sub-left-2 (
-  emit-reads.Asked,
-  emit-reads.Learnt,
+  array-open-reads.Asked,
+  array-open-reads.Learnt,
   array-turns-reads.Asked,
   array-turns-reads.Learnt,
   on-array-open-below t,
@@ -420,9 +422,9 @@ on-array-open-sub-left-2 : (t : ℕ) → on-array-open-lts.Need-sub-left-2 (
 ) (on-array-open-at t) on-array-open.Post on-array-open-Inv-loop on-array-open-μ-loop
 on-array-open-sub-left-2 t c = omega (arith, (c .before .if3) .left)
 
-on-array-open-emit-requires-2 : (t : ℕ) → on-array-open-lts.Need-emit-requires-2 (
-  emit-reads.Asked,
-  emit-reads.Learnt,
+on-array-open-array-open-requires-2 : (t : ℕ) → on-array-open-lts.Need-array-open-requires-2 (
+  array-open-reads.Asked,
+  array-open-reads.Learnt,
   array-turns-reads.Asked,
   array-turns-reads.Learnt,
   on-array-open-below t,
@@ -430,11 +432,11 @@ on-array-open-emit-requires-2 : (t : ℕ) → on-array-open-lts.Need-emit-requir
   on-inline-table-open-below t,
   on-inline-table-open.Post,
 ) (on-array-open-at t) on-array-open.Post on-array-open-Inv-loop on-array-open-μ-loop
-on-array-open-emit-requires-2 t c κs = search needs
+on-array-open-array-open-requires-2 t c κs = search needs
 
 on-array-open-loop-less-3 : (t : ℕ) → on-array-open-lts.Need-loop-less-3 (
-  emit-reads.Asked,
-  emit-reads.Learnt,
+  array-open-reads.Asked,
+  array-open-reads.Learnt,
   array-turns-reads.Asked,
   array-turns-reads.Learnt,
   on-array-open-below t,
@@ -445,8 +447,8 @@ on-array-open-loop-less-3 : (t : ℕ) → on-array-open-lts.Need-loop-less-3 (
 on-array-open-loop-less-3 t c = omega (arith, stack-array-moved ((c .before .before .before .before .before .before .before .before .before .before .before .before .before .before .before .before .before .before .before .loop) .inv .0) _ ((c .before .before .before .before .before .before .before .before .before .before .before .before .before .before .before .before .array-turns) .ensures) _ ((c .before .before .before .before .before .before .before .x) .given .1), (c .before .before .before .before .before .before .before .before .before .before .before .before .before .before .before .before .array-turns) .ensures .good .low)
 
 on-array-open-loop-again-3 : (t : ℕ) → on-array-open-lts.Need-loop-again-3 (
-  emit-reads.Asked,
-  emit-reads.Learnt,
+  array-open-reads.Asked,
+  array-open-reads.Learnt,
   array-turns-reads.Asked,
   array-turns-reads.Learnt,
   on-array-open-below t,
@@ -454,11 +456,11 @@ on-array-open-loop-again-3 : (t : ℕ) → on-array-open-lts.Need-loop-again-3 (
   on-inline-table-open-below t,
   on-inline-table-open.Post,
 ) (on-array-open-at t) on-array-open.Post on-array-open-Inv-loop on-array-open-μ-loop
-on-array-open-loop-again-3 t c = (stack-push ((c .before .before .before .before .before .before .before .before .before .before .before .before .before .before .before .before .before .before .before .loop) .inv .0) _ ((c .before .before .before .before .before .before .before .before .before .before .before .before .before .before .before .before .array-turns) .ensures) _ ((c .before .before .before .before .before .before .before .x) .given .1) ((c .before .before .before .before .before .if3) .left) (omega (arith, (c .before .before .before .before .if4) .taken, (c .before .before .before .before .before .before .before .before .before .before .before .before .before .before .before .before .before .before .before .loop) .inv .1)) (omega (arith, (c .before .before .before .before .if4) .taken, (c .before .before .before .before .before .before .before .before .before .before .before .before .before .before .before .before .before .before .before .loop) .inv .2)) _ (λ all. (c .before .before .emit2) .ensures all _), length-set ((c .before .before .before .before .before .before .before .before .before .before .before .before .before .before .before .before .before .before .before .loop) .starts) ((c .before .before .before .before .before .before .before .before .before .before .before .before .before .before .before .before .before .before .before .loop) .depth) ((c .before .before .before .before .before .before .before .before .before .before .before .before .before .before .before .before .before .before .before .loop) .inner .start) ∙ (c .before .before .before .before .before .before .before .before .before .before .before .before .before .before .before .before .before .before .before .loop) .inv .1, length-set ((c .before .before .before .before .before .before .before .before .before .before .before .before .before .before .before .before .before .before .before .loop) .ends) ((c .before .before .before .before .before .before .before .before .before .before .before .before .before .before .before .before .before .before .before .loop) .depth) ((c .before .before .before .before .before .before .before .before .before .before .before .before .before .before .before .before .before .before .before .loop) .inner .end) ∙ (c .before .before .before .before .before .before .before .before .before .before .before .before .before .before .before .before .before .before .before .loop) .inv .2, ((c .before .before .emit2 .kept .0) ∙ (c .before .before .before .before .before .before .before .before .before .before .before .before .before .before .before .before .array-turns .kept .1 .1 .1 .1 .1 .0)) ∙ (c .before .before .before .before .before .before .before .before .before .before .before .before .before .before .before .before .before .before .before .loop) .inv .3, ((c .before .before .before .before .before .before .before .before .before .before .before .before .before .before .before .before .array-turns .kept .1 .1 .1 .1 .1 .1 .0)) ∙ (c .before .before .before .before .before .before .before .before .before .before .before .before .before .before .before .before .before .before .before .loop) .inv .4, omega (arith, (c .before .before .before .before .if4) .taken))
+on-array-open-loop-again-3 t c = (stack-push ((c .before .before .before .before .before .before .before .before .before .before .before .before .before .before .before .before .before .before .before .loop) .inv .0) _ ((c .before .before .before .before .before .before .before .before .before .before .before .before .before .before .before .before .array-turns) .ensures) _ ((c .before .before .before .before .before .before .before .x) .given .1) ((c .before .before .before .before .before .if3) .left) (omega (arith, (c .before .before .before .before .if4) .taken, (c .before .before .before .before .before .before .before .before .before .before .before .before .before .before .before .before .before .before .before .loop) .inv .1)) (omega (arith, (c .before .before .before .before .if4) .taken, (c .before .before .before .before .before .before .before .before .before .before .before .before .before .before .before .before .before .before .before .loop) .inv .2)) _ (λ all. (c .before .before .array-open2) .ensures all _), length-set ((c .before .before .before .before .before .before .before .before .before .before .before .before .before .before .before .before .before .before .before .loop) .starts) ((c .before .before .before .before .before .before .before .before .before .before .before .before .before .before .before .before .before .before .before .loop) .depth) ((c .before .before .before .before .before .before .before .before .before .before .before .before .before .before .before .before .before .before .before .loop) .inner .start) ∙ (c .before .before .before .before .before .before .before .before .before .before .before .before .before .before .before .before .before .before .before .loop) .inv .1, length-set ((c .before .before .before .before .before .before .before .before .before .before .before .before .before .before .before .before .before .before .before .loop) .ends) ((c .before .before .before .before .before .before .before .before .before .before .before .before .before .before .before .before .before .before .before .loop) .depth) ((c .before .before .before .before .before .before .before .before .before .before .before .before .before .before .before .before .before .before .before .loop) .inner .end) ∙ (c .before .before .before .before .before .before .before .before .before .before .before .before .before .before .before .before .before .before .before .loop) .inv .2, ((c .before .before .array-open2 .kept .0) ∙ (c .before .before .before .before .before .before .before .before .before .before .before .before .before .before .before .before .array-turns .kept .1 .1 .1 .1 .1 .0)) ∙ (c .before .before .before .before .before .before .before .before .before .before .before .before .before .before .before .before .before .before .before .loop) .inv .3, ((c .before .before .before .before .before .before .before .before .before .before .before .before .before .before .before .before .array-turns .kept .1 .1 .1 .1 .1 .1 .0)) ∙ (c .before .before .before .before .before .before .before .before .before .before .before .before .before .before .before .before .before .before .before .loop) .inv .4, omega (arith, (c .before .before .before .before .if4) .taken))
 
 on-array-open-on-array-open-requires : (t : ℕ) → on-array-open-lts.Need-on-array-open-requires (
-  emit-reads.Asked,
-  emit-reads.Learnt,
+  array-open-reads.Asked,
+  array-open-reads.Learnt,
   array-turns-reads.Asked,
   array-turns-reads.Learnt,
   on-array-open-below t,
@@ -466,11 +468,11 @@ on-array-open-on-array-open-requires : (t : ℕ) → on-array-open-lts.Need-on-a
   on-inline-table-open-below t,
   on-inline-table-open.Post,
 ) (on-array-open-at t) on-array-open.Post on-array-open-Inv-loop on-array-open-μ-loop
-on-array-open-on-array-open-requires t c κs = (omega (arith, ((c .before .before .before .before .before .before .before .before .before .before .before .before .before .before .before .before .before .loop) .inv .0) .sum, (c .before .before .before .before .before .before .before .before .before .before .before .before .before .before .before .before .before .before .before .before .before .before .before .before .before .before .before .pre) .0), (c .before .before .before .before .before .before .before .before .before .before .before .before .before .before .array-turns) .ensures .good)
+on-array-open-on-array-open-requires t c κs = (omega (arith, ((c .before .before .before .before .before .before .before .before .before .before .before .before .before .before .before .before .before .loop) .inv .0) .sum, (c .before .before .before .before .before .before .before .before .before .before .before .before .before .before .before .before .before .before .before .before .before .before .before .if1) .left, (c .before .before .before .before .before .before .before .before .before .before .before .before .before .before .before .before .before .before .before .before .before .before .before .before .before .before .before .before .before .pre) .0), (c .before .before .before .before .before .before .before .before .before .before .before .before .before .before .array-turns) .ensures .good)
 
 on-array-open-same-length-5 : (t : ℕ) → on-array-open-lts.Need-same-length-5 (
-  emit-reads.Asked,
-  emit-reads.Learnt,
+  array-open-reads.Asked,
+  array-open-reads.Learnt,
   array-turns-reads.Asked,
   array-turns-reads.Learnt,
   on-array-open-below t,
@@ -478,11 +480,11 @@ on-array-open-same-length-5 : (t : ℕ) → on-array-open-lts.Need-same-length-5
   on-inline-table-open-below t,
   on-inline-table-open.Post,
 ) (on-array-open-at t) on-array-open.Post on-array-open-Inv-loop on-array-open-μ-loop
-on-array-open-same-length-5 t c = ((c .before .before .before .before .before .on-array-open .kept .1 .1 .1 .1 .1 .0) ∙ (c .before .before .before .before .before .before .before .before .before .before .before .before .before .before .before .before .before .before .before .before .array-turns .kept .1 .1 .1 .1 .1 .0)) ∙ (c .before .before .before .before .before .before .before .before .before .before .before .before .before .before .before .before .before .before .before .before .before .before .before .loop) .inv .3 ∙ (c .before .before .before .before .before .before .before .before .before .before .before .before .before .before .before .before .before .before .before .before .before .before .before .before .before .before .emit) .kept .0
+on-array-open-same-length-5 t c = ((c .before .before .before .before .before .on-array-open .kept .1 .1 .1 .1 .1 .0) ∙ (c .before .before .before .before .before .before .before .before .before .before .before .before .before .before .before .before .before .before .before .before .array-turns .kept .1 .1 .1 .1 .1 .0)) ∙ (c .before .before .before .before .before .before .before .before .before .before .before .before .before .before .before .before .before .before .before .before .before .before .before .loop) .inv .3 ∙ (c .before .before .before .before .before .before .before .before .before .before .before .before .before .before .before .before .before .before .before .before .before .before .before .before .before .before .before .array-open) .kept .0
 
 on-array-open-same-length-6 : (t : ℕ) → on-array-open-lts.Need-same-length-6 (
-  emit-reads.Asked,
-  emit-reads.Learnt,
+  array-open-reads.Asked,
+  array-open-reads.Learnt,
   array-turns-reads.Asked,
   array-turns-reads.Learnt,
   on-array-open-below t,
@@ -493,8 +495,8 @@ on-array-open-same-length-6 : (t : ℕ) → on-array-open-lts.Need-same-length-6
 on-array-open-same-length-6 t c = ((c .before .before .before .before .before .on-array-open .kept .1 .1 .1 .1 .1 .1 .0) ∙ (c .before .before .before .before .before .before .before .before .before .before .before .before .before .before .before .before .before .before .before .before .array-turns .kept .1 .1 .1 .1 .1 .1 .0)) ∙ (c .before .before .before .before .before .before .before .before .before .before .before .before .before .before .before .before .before .before .before .before .before .before .before .loop) .inv .4
 
 on-array-open-returns-4 : (t : ℕ) → on-array-open-lts.Need-returns-4 (
-  emit-reads.Asked,
-  emit-reads.Learnt,
+  array-open-reads.Asked,
+  array-open-reads.Learnt,
   array-turns-reads.Asked,
   array-turns-reads.Learnt,
   on-array-open-below t,
@@ -502,11 +504,11 @@ on-array-open-returns-4 : (t : ℕ) → on-array-open-lts.Need-returns-4 (
   on-inline-table-open-below t,
   on-inline-table-open.Post,
 ) (on-array-open-at t) on-array-open.Post on-array-open-Inv-loop on-array-open-μ-loop
-on-array-open-returns-4 t c = nested-as (open-array ((c .before .before .before .before .before .before .before .before .before .before .before .before .before .before .before .before .before .before .before .before .before .before .before .before .before .before .before .before .before .before .before .before .before .args) .settings .levels) _ _ _ ((c .before .before .before .before .before .before .before .before .before .before .before .before .before .before .before .before .before .before .before .before .before .before .before .before .before .before .before .before .if1) .left)) (nested-item _ _ (λ all. (c .before .before .before .before .before .before .before .before .before .before .before .before .before .before .before .before .before .before .before .before .before .before .before .before .before .before .emit) .ensures all _) (stack-array-stop ((c .before .before .before .before .before .before .before .before .before .before .before .before .before .before .before .before .before .before .before .before .before .before .before .loop) .inv .0) _ ((c .before .before .before .before .before .before .before .before .before .before .before .before .before .before .before .before .before .before .before .before .array-turns) .ensures) _ ((c .before .before .before .before .before .before .before .before .before .before .before .x) .given .1) ((c .before .before .before .before .before .on-array-open) .ensures) ((c .if5) .taken)))
+on-array-open-returns-4 t c = nested-as (open-array ((c .before .before .before .before .before .before .before .before .before .before .before .before .before .before .before .before .before .before .before .before .before .before .before .before .before .before .before .before .before .before .before .before .before .before .before .args) .settings .levels) _ _ _ ((c .before .before .before .before .before .before .before .before .before .before .before .before .before .before .before .before .before .before .before .before .before .before .before .before .before .before .before .before .before .if1) .left)) (nested-item _ _ (λ all. (c .before .before .before .before .before .before .before .before .before .before .before .before .before .before .before .before .before .before .before .before .before .before .before .before .before .before .before .array-open) .ensures all _) (stack-array-stop ((c .before .before .before .before .before .before .before .before .before .before .before .before .before .before .before .before .before .before .before .before .before .before .before .loop) .inv .0) _ ((c .before .before .before .before .before .before .before .before .before .before .before .before .before .before .before .before .before .before .before .before .array-turns) .ensures) _ ((c .before .before .before .before .before .before .before .before .before .before .before .x) .given .1) ((c .before .before .before .before .before .on-array-open) .ensures) ((c .if5) .taken)))
 
 on-array-open-loop-less-4 : (t : ℕ) → on-array-open-lts.Need-loop-less-4 (
-  emit-reads.Asked,
-  emit-reads.Learnt,
+  array-open-reads.Asked,
+  array-open-reads.Learnt,
   array-turns-reads.Asked,
   array-turns-reads.Learnt,
   on-array-open-below t,
@@ -517,8 +519,8 @@ on-array-open-loop-less-4 : (t : ℕ) → on-array-open-lts.Need-loop-less-4 (
 on-array-open-loop-less-4 t c = omega (arith, stack-array-moved ((c .before .before .before .before .before .before .before .before .before .before .before .before .before .before .before .before .before .before .before .before .before .before .before .before .before .loop) .inv .0) _ ((c .before .before .before .before .before .before .before .before .before .before .before .before .before .before .before .before .before .before .before .before .before .before .array-turns) .ensures) _ ((c .before .before .before .before .before .before .before .before .before .before .before .before .before .x) .given .1), (c .before .before .before .before .before .before .before .on-array-open) .ensures .on, (c .before .before .before .before .before .before .before .on-array-open) .ensures .good .low)
 
 on-array-open-loop-again-4 : (t : ℕ) → on-array-open-lts.Need-loop-again-4 (
-  emit-reads.Asked,
-  emit-reads.Learnt,
+  array-open-reads.Asked,
+  array-open-reads.Learnt,
   array-turns-reads.Asked,
   array-turns-reads.Learnt,
   on-array-open-below t,
@@ -529,8 +531,8 @@ on-array-open-loop-again-4 : (t : ℕ) → on-array-open-lts.Need-loop-again-4 (
 on-array-open-loop-again-4 t c = (stack-array-again ((c .before .before .before .before .before .before .before .before .before .before .before .before .before .before .before .before .before .before .before .before .before .before .before .before .before .loop) .inv .0) _ ((c .before .before .before .before .before .before .before .before .before .before .before .before .before .before .before .before .before .before .before .before .before .before .array-turns) .ensures) _ ((c .before .before .before .before .before .before .before .before .before .before .before .before .before .x) .given .1) ((c .before .before .before .before .before .before .before .on-array-open) .ensures) ((c .before .before .if5) .left), (c .before .before .before .before .before .before .before .before .before .before .before .before .before .before .before .before .before .before .before .before .before .before .before .before .before .loop) .inv .1, (c .before .before .before .before .before .before .before .before .before .before .before .before .before .before .before .before .before .before .before .before .before .before .before .before .before .loop) .inv .2, ((c .before .before .before .before .before .before .before .on-array-open .kept .1 .1 .1 .1 .1 .0) ∙ (c .before .before .before .before .before .before .before .before .before .before .before .before .before .before .before .before .before .before .before .before .before .before .array-turns .kept .1 .1 .1 .1 .1 .0)) ∙ (c .before .before .before .before .before .before .before .before .before .before .before .before .before .before .before .before .before .before .before .before .before .before .before .before .before .loop) .inv .3, ((c .before .before .before .before .before .before .before .on-array-open .kept .1 .1 .1 .1 .1 .1 .0) ∙ (c .before .before .before .before .before .before .before .before .before .before .before .before .before .before .before .before .before .before .before .before .before .before .array-turns .kept .1 .1 .1 .1 .1 .1 .0)) ∙ (c .before .before .before .before .before .before .before .before .before .before .before .before .before .before .before .before .before .before .before .before .before .before .before .before .before .loop) .inv .4, omega (arith, (c .before .before .before .before .before .before .before .before .before .before .before .before .before .before .before .before .before .before .before .before .before .before .before .before .before .loop) .inv .5))
 
 on-array-open-enum-known-x-2 : (t : ℕ) → on-array-open-lts.Need-enum-known-x-2 (
-  emit-reads.Asked,
-  emit-reads.Learnt,
+  array-open-reads.Asked,
+  array-open-reads.Learnt,
   array-turns-reads.Asked,
   array-turns-reads.Learnt,
   on-array-open-below t,
@@ -541,8 +543,8 @@ on-array-open-enum-known-x-2 : (t : ℕ) → on-array-open-lts.Need-enum-known-x
 on-array-open-enum-known-x-2 t c = search needs
 
 on-array-open-on-inline-table-open-requires : (t : ℕ) → on-array-open-lts.Need-on-inline-table-open-requires (
-  emit-reads.Asked,
-  emit-reads.Learnt,
+  array-open-reads.Asked,
+  array-open-reads.Learnt,
   array-turns-reads.Asked,
   array-turns-reads.Learnt,
   on-array-open-below t,
@@ -550,11 +552,11 @@ on-array-open-on-inline-table-open-requires : (t : ℕ) → on-array-open-lts.Ne
   on-inline-table-open-below t,
   on-inline-table-open.Post,
 ) (on-array-open-at t) on-array-open.Post on-array-open-Inv-loop on-array-open-μ-loop
-on-array-open-on-inline-table-open-requires t c κs = (omega (arith, ((c .before .before .before .before .before .before .before .before .before .before .before .before .before .before .before .loop) .inv .0) .sum, (c .before .before .before .before .before .before .before .before .before .before .before .before .before .before .before .before .before .before .before .before .before .before .before .before .before .pre) .0), (c .before .before .before .before .before .before .before .before .before .before .before .before .array-turns) .ensures .good)
+on-array-open-on-inline-table-open-requires t c κs = (omega (arith, ((c .before .before .before .before .before .before .before .before .before .before .before .before .before .before .before .loop) .inv .0) .sum, (c .before .before .before .before .before .before .before .before .before .before .before .before .before .before .before .before .before .before .before .before .before .if1) .left, (c .before .before .before .before .before .before .before .before .before .before .before .before .before .before .before .before .before .before .before .before .before .before .before .before .before .before .before .pre) .0), (c .before .before .before .before .before .before .before .before .before .before .before .before .array-turns) .ensures .good)
 
 on-array-open-same-length-7 : (t : ℕ) → on-array-open-lts.Need-same-length-7 (
-  emit-reads.Asked,
-  emit-reads.Learnt,
+  array-open-reads.Asked,
+  array-open-reads.Learnt,
   array-turns-reads.Asked,
   array-turns-reads.Learnt,
   on-array-open-below t,
@@ -562,11 +564,11 @@ on-array-open-same-length-7 : (t : ℕ) → on-array-open-lts.Need-same-length-7
   on-inline-table-open-below t,
   on-inline-table-open.Post,
 ) (on-array-open-at t) on-array-open.Post on-array-open-Inv-loop on-array-open-μ-loop
-on-array-open-same-length-7 t c = ((c .before .before .before .before .before .on-inline-table-open .kept .1 .1 .1 .1 .1 .0) ∙ (c .before .before .before .before .before .before .before .before .before .before .before .before .before .before .before .before .before .before .array-turns .kept .1 .1 .1 .1 .1 .0)) ∙ (c .before .before .before .before .before .before .before .before .before .before .before .before .before .before .before .before .before .before .before .before .before .loop) .inv .3 ∙ (c .before .before .before .before .before .before .before .before .before .before .before .before .before .before .before .before .before .before .before .before .before .before .before .before .emit) .kept .0
+on-array-open-same-length-7 t c = ((c .before .before .before .before .before .on-inline-table-open .kept .1 .1 .1 .1 .1 .0) ∙ (c .before .before .before .before .before .before .before .before .before .before .before .before .before .before .before .before .before .before .array-turns .kept .1 .1 .1 .1 .1 .0)) ∙ (c .before .before .before .before .before .before .before .before .before .before .before .before .before .before .before .before .before .before .before .before .before .loop) .inv .3 ∙ (c .before .before .before .before .before .before .before .before .before .before .before .before .before .before .before .before .before .before .before .before .before .before .before .before .before .array-open) .kept .0
 
 on-array-open-same-length-8 : (t : ℕ) → on-array-open-lts.Need-same-length-8 (
-  emit-reads.Asked,
-  emit-reads.Learnt,
+  array-open-reads.Asked,
+  array-open-reads.Learnt,
   array-turns-reads.Asked,
   array-turns-reads.Learnt,
   on-array-open-below t,
@@ -577,8 +579,8 @@ on-array-open-same-length-8 : (t : ℕ) → on-array-open-lts.Need-same-length-8
 on-array-open-same-length-8 t c = ((c .before .before .before .before .before .on-inline-table-open .kept .1 .1 .1 .1 .1 .1 .0) ∙ (c .before .before .before .before .before .before .before .before .before .before .before .before .before .before .before .before .before .before .array-turns .kept .1 .1 .1 .1 .1 .1 .0)) ∙ (c .before .before .before .before .before .before .before .before .before .before .before .before .before .before .before .before .before .before .before .before .before .loop) .inv .4
 
 on-array-open-returns-5 : (t : ℕ) → on-array-open-lts.Need-returns-5 (
-  emit-reads.Asked,
-  emit-reads.Learnt,
+  array-open-reads.Asked,
+  array-open-reads.Learnt,
   array-turns-reads.Asked,
   array-turns-reads.Learnt,
   on-array-open-below t,
@@ -586,11 +588,11 @@ on-array-open-returns-5 : (t : ℕ) → on-array-open-lts.Need-returns-5 (
   on-inline-table-open-below t,
   on-inline-table-open.Post,
 ) (on-array-open-at t) on-array-open.Post on-array-open-Inv-loop on-array-open-μ-loop
-on-array-open-returns-5 t c = nested-as (open-array ((c .before .before .before .before .before .before .before .before .before .before .before .before .before .before .before .before .before .before .before .before .before .before .before .before .before .before .before .before .before .before .before .args) .settings .levels) _ _ _ ((c .before .before .before .before .before .before .before .before .before .before .before .before .before .before .before .before .before .before .before .before .before .before .before .before .before .before .if1) .left)) (nested-item _ _ (λ all. (c .before .before .before .before .before .before .before .before .before .before .before .before .before .before .before .before .before .before .before .before .before .before .before .before .emit) .ensures all _) (stack-table-stop ((c .before .before .before .before .before .before .before .before .before .before .before .before .before .before .before .before .before .before .before .before .before .loop) .inv .0) _ ((c .before .before .before .before .before .before .before .before .before .before .before .before .before .before .before .before .before .before .array-turns) .ensures) _ ((c .before .before .before .before .before .before .before .before .before .x2) .given .1) ((c .before .before .before .before .before .on-inline-table-open) .ensures) ((c .if6) .taken)))
+on-array-open-returns-5 t c = nested-as (open-array ((c .before .before .before .before .before .before .before .before .before .before .before .before .before .before .before .before .before .before .before .before .before .before .before .before .before .before .before .before .before .before .before .before .before .args) .settings .levels) _ _ _ ((c .before .before .before .before .before .before .before .before .before .before .before .before .before .before .before .before .before .before .before .before .before .before .before .before .before .before .before .if1) .left)) (nested-item _ _ (λ all. (c .before .before .before .before .before .before .before .before .before .before .before .before .before .before .before .before .before .before .before .before .before .before .before .before .before .array-open) .ensures all _) (stack-table-stop ((c .before .before .before .before .before .before .before .before .before .before .before .before .before .before .before .before .before .before .before .before .before .loop) .inv .0) _ ((c .before .before .before .before .before .before .before .before .before .before .before .before .before .before .before .before .before .before .array-turns) .ensures) _ ((c .before .before .before .before .before .before .before .before .before .x2) .given .1) ((c .before .before .before .before .before .on-inline-table-open) .ensures) ((c .if6) .taken)))
 
 on-array-open-loop-less-5 : (t : ℕ) → on-array-open-lts.Need-loop-less-5 (
-  emit-reads.Asked,
-  emit-reads.Learnt,
+  array-open-reads.Asked,
+  array-open-reads.Learnt,
   array-turns-reads.Asked,
   array-turns-reads.Learnt,
   on-array-open-below t,
@@ -601,8 +603,8 @@ on-array-open-loop-less-5 : (t : ℕ) → on-array-open-lts.Need-loop-less-5 (
 on-array-open-loop-less-5 t c = omega (arith, stack-table-moved ((c .before .before .before .before .before .before .before .before .before .before .before .before .before .before .before .before .before .before .before .before .before .before .before .loop) .inv .0) _ ((c .before .before .before .before .before .before .before .before .before .before .before .before .before .before .before .before .before .before .before .before .array-turns) .ensures) _ ((c .before .before .before .before .before .before .before .before .before .before .before .x2) .given .1), (c .before .before .before .before .before .before .before .on-inline-table-open) .ensures .on, (c .before .before .before .before .before .before .before .on-inline-table-open) .ensures .good .low)
 
 on-array-open-loop-again-5 : (t : ℕ) → on-array-open-lts.Need-loop-again-5 (
-  emit-reads.Asked,
-  emit-reads.Learnt,
+  array-open-reads.Asked,
+  array-open-reads.Learnt,
   array-turns-reads.Asked,
   array-turns-reads.Learnt,
   on-array-open-below t,
@@ -621,8 +623,8 @@ abbrev on-inline-table-open-μ-loop : on-inline-table-open-lts.MeasureT-loop
 on-inline-table-open-μ-loop s head events₀ errors₀ levels n₀ cur₀ p₀ actions opened inside events errors n cur p = count s - cur .at
 
 on-inline-table-open-returns : (t : ℕ) → on-inline-table-open-lts.Need-returns (
-  emit-reads.Asked,
-  emit-reads.Learnt,
+  table-open-reads.Asked,
+  table-open-reads.Learnt,
   action-table-reads.Asked,
   action-table-reads.Learnt,
   inline-table-turn-reads.Asked,
@@ -634,9 +636,9 @@ on-inline-table-open-returns : (t : ℕ) → on-inline-table-open-lts.Need-retur
 ) (on-inline-table-open-at t) on-inline-table-open.Post on-inline-table-open-Inv-loop on-inline-table-open-μ-loop
 on-inline-table-open-returns t c = no-level ((c .before .before .before .before .before .args) .settings .levels) Bracket.Curly _ _ _ _ _ _ ((c .if1) .taken) ((c .before .before .before .before .before .pre) .1)
 
-on-inline-table-open-emit-requires : (t : ℕ) → on-inline-table-open-lts.Need-emit-requires (
-  emit-reads.Asked,
-  emit-reads.Learnt,
+on-inline-table-open-table-open-requires : (t : ℕ) → on-inline-table-open-lts.Need-table-open-requires (
+  table-open-reads.Asked,
+  table-open-reads.Learnt,
   action-table-reads.Asked,
   action-table-reads.Learnt,
   inline-table-turn-reads.Asked,
@@ -646,11 +648,11 @@ on-inline-table-open-emit-requires : (t : ℕ) → on-inline-table-open-lts.Need
   on-inline-table-open-below t,
   on-inline-table-open.Post,
 ) (on-inline-table-open-at t) on-inline-table-open.Post on-inline-table-open-Inv-loop on-inline-table-open-μ-loop
-on-inline-table-open-emit-requires t c κs = search needs
+on-inline-table-open-table-open-requires t c κs = search needs
 
 on-inline-table-open-action-table-requires : (t : ℕ) → on-inline-table-open-lts.Need-action-table-requires (
-  emit-reads.Asked,
-  emit-reads.Learnt,
+  table-open-reads.Asked,
+  table-open-reads.Learnt,
   action-table-reads.Asked,
   action-table-reads.Learnt,
   inline-table-turn-reads.Asked,
@@ -662,9 +664,9 @@ on-inline-table-open-action-table-requires : (t : ℕ) → on-inline-table-open-
 ) (on-inline-table-open-at t) on-inline-table-open.Post on-inline-table-open-Inv-loop on-inline-table-open-μ-loop
 on-inline-table-open-action-table-requires t c κs = search needs
 
-on-inline-table-open-sub-t37 : (t : ℕ) → on-inline-table-open-lts.Need-sub-t37 (
-  emit-reads.Asked,
-  emit-reads.Learnt,
+on-inline-table-open-sub-t34 : (t : ℕ) → on-inline-table-open-lts.Need-sub-t34 (
+  table-open-reads.Asked,
+  table-open-reads.Learnt,
   action-table-reads.Asked,
   action-table-reads.Learnt,
   inline-table-turn-reads.Asked,
@@ -674,11 +676,11 @@ on-inline-table-open-sub-t37 : (t : ℕ) → on-inline-table-open-lts.Need-sub-t
   on-inline-table-open-below t,
   on-inline-table-open.Post,
 ) (on-inline-table-open-at t) on-inline-table-open.Post on-inline-table-open-Inv-loop on-inline-table-open-μ-loop
-on-inline-table-open-sub-t37 t c = omega (arith, (c .before .before .before .before .before .if1) .left)
+on-inline-table-open-sub-t34 t c = omega (arith, (c .before .before .before .before .before .if1) .left)
 
 on-inline-table-open-loop-holds : (t : ℕ) → on-inline-table-open-lts.Need-loop-holds (
-  emit-reads.Asked,
-  emit-reads.Learnt,
+  table-open-reads.Asked,
+  table-open-reads.Learnt,
   action-table-reads.Asked,
   action-table-reads.Learnt,
   inline-table-turn-reads.Asked,
@@ -691,8 +693,8 @@ on-inline-table-open-loop-holds : (t : ℕ) → on-inline-table-open-lts.Need-lo
 on-inline-table-open-loop-holds t c = (turns-begun _ _ _ _ ((c .before .before .before .before .before .before .before .before .before .before .pre) .1), refl, refl, (c .action-table) .ensures)
 
 on-inline-table-open-inline-table-turn-requires : (t : ℕ) → on-inline-table-open-lts.Need-inline-table-turn-requires (
-  emit-reads.Asked,
-  emit-reads.Learnt,
+  table-open-reads.Asked,
+  table-open-reads.Learnt,
   action-table-reads.Asked,
   action-table-reads.Learnt,
   inline-table-turn-reads.Asked,
@@ -705,8 +707,8 @@ on-inline-table-open-inline-table-turn-requires : (t : ℕ) → on-inline-table-
 on-inline-table-open-inline-table-turn-requires t c κs = (((c .before .before .before .loop) .inv .0) .good, (c .before .before .before .loop) .inv .3, (c .before .before .before .before .before .before .before .before .before .before .before .before .before .before .pre) .1 .low)
 
 on-inline-table-open-enum-told : (t : ℕ) → on-inline-table-open-lts.Need-enum-told (
-  emit-reads.Asked,
-  emit-reads.Learnt,
+  table-open-reads.Asked,
+  table-open-reads.Learnt,
   action-table-reads.Asked,
   action-table-reads.Learnt,
   inline-table-turn-reads.Asked,
@@ -719,8 +721,8 @@ on-inline-table-open-enum-told : (t : ℕ) → on-inline-table-open-lts.Need-enu
 on-inline-table-open-enum-told t c = search needs
 
 on-inline-table-open-loop-less : (t : ℕ) → on-inline-table-open-lts.Need-loop-less (
-  emit-reads.Asked,
-  emit-reads.Learnt,
+  table-open-reads.Asked,
+  table-open-reads.Learnt,
   action-table-reads.Asked,
   action-table-reads.Learnt,
   inline-table-turn-reads.Asked,
@@ -733,8 +735,8 @@ on-inline-table-open-loop-less : (t : ℕ) → on-inline-table-open-lts.Need-loo
 on-inline-table-open-loop-less t c = omega (arith, turn-moved (onOpen ((c .before .before .before .before .before .before .before .before .before .before .before .before .before .before .before .before .before .before .before .before .before .before .before .before .before .args) .settings .levels - 1)) (λ nest. inlineTableTurn (span ((c .before .before .before .before .before .before .before .before .before .before .before .before .before .before .before .before .before .before .before .before .before .before .before .before .before .args) .head .start) ((c .before .before .before .before .before .before .before .before .before .before .before .before .before .before .before .before .before .before .before .before .before .before .before .before .before .args) .head .end)) (count ((c .before .before .before .before .before .before .before .before .before .before .before .before .before .before .before .before .before .before .before .before .before .before .before .before .before .args) .s .now) - (c .before .before .before .before .before .before .before .before .before .before .before .before .before .before .before .before .before .before .before .before .before .before .before .before .before .args) .c .at) nest) (λ f g w. refl) ((c .before .before .before .before .before .before .before .before .before .before .before .before .before .before .loop) .p) ((c .before .before .before .before .before .before .before .before .before .before .before .before .before .before .loop) .inv .0) ((c .before .before .before .before .before .before .before .before .before .before .inline-table-turn) .result .progress) ((c .before .before .before .before .before .before .before .before .before .before .inline-table-turn) .ensures) ((c .enum-told) .given .1), (c .before .before .before .before .before .before .before .before .before .before .inline-table-turn) .ensures .good .low)
 
 on-inline-table-open-loop-again : (t : ℕ) → on-inline-table-open-lts.Need-loop-again (
-  emit-reads.Asked,
-  emit-reads.Learnt,
+  table-open-reads.Asked,
+  table-open-reads.Learnt,
   action-table-reads.Asked,
   action-table-reads.Learnt,
   inline-table-turn-reads.Asked,
@@ -747,8 +749,8 @@ on-inline-table-open-loop-again : (t : ℕ) → on-inline-table-open-lts.Need-lo
 on-inline-table-open-loop-again t c = (turn-next (onOpen ((c .before .before .before .before .before .before .before .before .before .before .before .before .before .before .before .before .before .before .before .before .before .before .before .before .before .args) .settings .levels - 1)) (λ nest. inlineTableTurn (span ((c .before .before .before .before .before .before .before .before .before .before .before .before .before .before .before .before .before .before .before .before .before .before .before .before .before .args) .head .start) ((c .before .before .before .before .before .before .before .before .before .before .before .before .before .before .before .before .before .before .before .before .before .before .before .before .before .args) .head .end)) (count ((c .before .before .before .before .before .before .before .before .before .before .before .before .before .before .before .before .before .before .before .before .before .before .before .before .before .args) .s .now) - (c .before .before .before .before .before .before .before .before .before .before .before .before .before .before .before .before .before .before .before .before .before .before .before .before .before .args) .c .at) nest) (λ f g w. refl) ((c .before .before .before .before .before .before .before .before .before .before .before .before .before .before .loop) .p) ((c .before .before .before .before .before .before .before .before .before .before .before .before .before .before .loop) .inv .0) ((c .before .before .before .before .before .before .before .before .before .before .inline-table-turn) .result .progress) ((c .before .before .before .before .before .before .before .before .before .before .inline-table-turn) .ensures) ((c .enum-told) .given .1), ((c .before .before .before .before .before .before .before .before .before .before .inline-table-turn .kept .1 .1 .1 .1 .1 .1 .1 .0)) ∙ (c .before .before .before .before .before .before .before .before .before .before .before .before .before .before .loop) .inv .1, ((c .before .before .before .before .before .before .before .before .before .before .inline-table-turn .kept .1 .1 .1 .1 .1 .1 .1 .1 .0)) ∙ (c .before .before .before .before .before .before .before .before .before .before .before .before .before .before .loop) .inv .2, (c .before .before .before .before .before .before .before .before .before .before .before .before .before .before .loop) .inv .3)
 
 on-inline-table-open-enum-told-2 : (t : ℕ) → on-inline-table-open-lts.Need-enum-told-2 (
-  emit-reads.Asked,
-  emit-reads.Learnt,
+  table-open-reads.Asked,
+  table-open-reads.Learnt,
   action-table-reads.Asked,
   action-table-reads.Learnt,
   inline-table-turn-reads.Asked,
@@ -761,8 +763,8 @@ on-inline-table-open-enum-told-2 : (t : ℕ) → on-inline-table-open-lts.Need-e
 on-inline-table-open-enum-told-2 t c = search needs
 
 on-inline-table-open-same-length : (t : ℕ) → on-inline-table-open-lts.Need-same-length (
-  emit-reads.Asked,
-  emit-reads.Learnt,
+  table-open-reads.Asked,
+  table-open-reads.Learnt,
   action-table-reads.Asked,
   action-table-reads.Learnt,
   inline-table-turn-reads.Asked,
@@ -772,11 +774,11 @@ on-inline-table-open-same-length : (t : ℕ) → on-inline-table-open-lts.Need-s
   on-inline-table-open-below t,
   on-inline-table-open.Post,
 ) (on-inline-table-open-at t) on-inline-table-open.Post on-inline-table-open-Inv-loop on-inline-table-open-μ-loop
-on-inline-table-open-same-length t c = ((c .before .before .before .before .before .before .before .before .before .before .inline-table-turn .kept .1 .1 .1 .1 .1 .1 .1 .0)) ∙ (c .before .before .before .before .before .before .before .before .before .before .before .before .before .before .loop) .inv .1 ∙ (c .before .before .before .before .before .before .before .before .before .before .before .before .before .before .before .before .before .before .emit) .kept .0
+on-inline-table-open-same-length t c = ((c .before .before .before .before .before .before .before .before .before .before .inline-table-turn .kept .1 .1 .1 .1 .1 .1 .1 .0)) ∙ (c .before .before .before .before .before .before .before .before .before .before .before .before .before .before .loop) .inv .1 ∙ (c .before .before .before .before .before .before .before .before .before .before .before .before .before .before .before .before .before .before .table-open) .kept .0
 
 on-inline-table-open-same-length-2 : (t : ℕ) → on-inline-table-open-lts.Need-same-length-2 (
-  emit-reads.Asked,
-  emit-reads.Learnt,
+  table-open-reads.Asked,
+  table-open-reads.Learnt,
   action-table-reads.Asked,
   action-table-reads.Learnt,
   inline-table-turn-reads.Asked,
@@ -789,8 +791,8 @@ on-inline-table-open-same-length-2 : (t : ℕ) → on-inline-table-open-lts.Need
 on-inline-table-open-same-length-2 t c = ((c .before .before .before .before .before .before .before .before .before .before .inline-table-turn .kept .1 .1 .1 .1 .1 .1 .1 .1 .0)) ∙ (c .before .before .before .before .before .before .before .before .before .before .before .before .before .before .loop) .inv .2
 
 on-inline-table-open-returns-2 : (t : ℕ) → on-inline-table-open-lts.Need-returns-2 (
-  emit-reads.Asked,
-  emit-reads.Learnt,
+  table-open-reads.Asked,
+  table-open-reads.Learnt,
   action-table-reads.Asked,
   action-table-reads.Learnt,
   inline-table-turn-reads.Asked,
@@ -800,11 +802,11 @@ on-inline-table-open-returns-2 : (t : ℕ) → on-inline-table-open-lts.Need-ret
   on-inline-table-open-below t,
   on-inline-table-open.Post,
 ) (on-inline-table-open-at t) on-inline-table-open.Post on-inline-table-open-Inv-loop on-inline-table-open-μ-loop
-on-inline-table-open-returns-2 t c = nested-as (open-table _ _ ((c .before .before .before .before .before .before .before .before .before .before .before .before .before .before .before .before .before .before .before .before .before .before .before .before .before .args) .settings .levels) _ _ ((c .before .before .before .before .before .before .before .before .before .before .before .before .before .before .before .before .before .before .before .before .if1) .left)) (nested-item _ _ (λ all. (c .before .before .before .before .before .before .before .before .before .before .before .before .before .before .before .before .before .before .emit) .ensures all _) (turn-over (onOpen ((c .before .before .before .before .before .before .before .before .before .before .before .before .before .before .before .before .before .before .before .before .before .before .before .before .before .args) .settings .levels - 1)) (λ nest. inlineTableTurn (span ((c .before .before .before .before .before .before .before .before .before .before .before .before .before .before .before .before .before .before .before .before .before .before .before .before .before .args) .head .start) ((c .before .before .before .before .before .before .before .before .before .before .before .before .before .before .before .before .before .before .before .before .before .before .before .before .before .args) .head .end)) (count ((c .before .before .before .before .before .before .before .before .before .before .before .before .before .before .before .before .before .before .before .before .before .before .before .before .before .args) .s .now) - (c .before .before .before .before .before .before .before .before .before .before .before .before .before .before .before .before .before .before .before .before .before .before .before .before .before .args) .c .at) nest) (λ f g w. refl) ((c .before .before .before .before .before .before .before .before .before .before .before .before .before .before .loop) .p) ((c .before .before .before .before .before .before .before .before .before .before .before .before .before .before .loop) .inv .0) ((c .before .before .before .before .before .before .before .before .before .before .inline-table-turn) .result .progress) ((c .before .before .before .before .before .before .before .before .before .before .inline-table-turn) .ensures) ((c .enum-told2) .given .1)))
+on-inline-table-open-returns-2 t c = nested-as (open-table _ _ ((c .before .before .before .before .before .before .before .before .before .before .before .before .before .before .before .before .before .before .before .before .before .before .before .before .before .args) .settings .levels) _ _ ((c .before .before .before .before .before .before .before .before .before .before .before .before .before .before .before .before .before .before .before .before .if1) .left)) (nested-item _ _ (λ all. (c .before .before .before .before .before .before .before .before .before .before .before .before .before .before .before .before .before .before .table-open) .ensures all _) (turn-over (onOpen ((c .before .before .before .before .before .before .before .before .before .before .before .before .before .before .before .before .before .before .before .before .before .before .before .before .before .args) .settings .levels - 1)) (λ nest. inlineTableTurn (span ((c .before .before .before .before .before .before .before .before .before .before .before .before .before .before .before .before .before .before .before .before .before .before .before .before .before .args) .head .start) ((c .before .before .before .before .before .before .before .before .before .before .before .before .before .before .before .before .before .before .before .before .before .before .before .before .before .args) .head .end)) (count ((c .before .before .before .before .before .before .before .before .before .before .before .before .before .before .before .before .before .before .before .before .before .before .before .before .before .args) .s .now) - (c .before .before .before .before .before .before .before .before .before .before .before .before .before .before .before .before .before .before .before .before .before .before .before .before .before .args) .c .at) nest) (λ f g w. refl) ((c .before .before .before .before .before .before .before .before .before .before .before .before .before .before .loop) .p) ((c .before .before .before .before .before .before .before .before .before .before .before .before .before .before .loop) .inv .0) ((c .before .before .before .before .before .before .before .before .before .before .inline-table-turn) .result .progress) ((c .before .before .before .before .before .before .before .before .before .before .inline-table-turn) .ensures) ((c .enum-told2) .given .1)))
 
 on-inline-table-open-enum-known-x : (t : ℕ) → on-inline-table-open-lts.Need-enum-known-x (
-  emit-reads.Asked,
-  emit-reads.Learnt,
+  table-open-reads.Asked,
+  table-open-reads.Learnt,
   action-table-reads.Asked,
   action-table-reads.Learnt,
   inline-table-turn-reads.Asked,
@@ -817,8 +819,8 @@ on-inline-table-open-enum-known-x : (t : ℕ) → on-inline-table-open-lts.Need-
 on-inline-table-open-enum-known-x t c = search needs
 
 on-inline-table-open-on-array-open-requires : (t : ℕ) → on-inline-table-open-lts.Need-on-array-open-requires (
-  emit-reads.Asked,
-  emit-reads.Learnt,
+  table-open-reads.Asked,
+  table-open-reads.Learnt,
   action-table-reads.Asked,
   action-table-reads.Learnt,
   inline-table-turn-reads.Asked,
@@ -831,8 +833,8 @@ on-inline-table-open-on-array-open-requires : (t : ℕ) → on-inline-table-open
 on-inline-table-open-on-array-open-requires t c κs = (omega (arith, (c .before .before .before .before .before .before .before .before .before .before .before .before .before .before .before .before .before .before .before .before .before .before .before .if1) .left, (c .before .before .before .before .before .before .before .before .before .before .before .before .before .before .before .before .before .before .before .before .before .before .before .before .before .before .before .before .pre) .0), (c .before .before .before .before .before .before .before .before .before .before .before .before .before .inline-table-turn) .ensures .good)
 
 on-inline-table-open-same-length-3 : (t : ℕ) → on-inline-table-open-lts.Need-same-length-3 (
-  emit-reads.Asked,
-  emit-reads.Learnt,
+  table-open-reads.Asked,
+  table-open-reads.Learnt,
   action-table-reads.Asked,
   action-table-reads.Learnt,
   inline-table-turn-reads.Asked,
@@ -842,11 +844,11 @@ on-inline-table-open-same-length-3 : (t : ℕ) → on-inline-table-open-lts.Need
   on-inline-table-open-below t,
   on-inline-table-open.Post,
 ) (on-inline-table-open-at t) on-inline-table-open.Post on-inline-table-open-Inv-loop on-inline-table-open-μ-loop
-on-inline-table-open-same-length-3 t c = ((c .before .before .before .before .before .on-array-open .kept .1 .1 .1 .1 .1 .0) ∙ (c .before .before .before .before .before .before .before .before .before .before .before .before .before .before .before .before .before .before .before .inline-table-turn .kept .1 .1 .1 .1 .1 .1 .1 .0)) ∙ (c .before .before .before .before .before .before .before .before .before .before .before .before .before .before .before .before .before .before .before .before .before .before .before .loop) .inv .1 ∙ (c .before .before .before .before .before .before .before .before .before .before .before .before .before .before .before .before .before .before .before .before .before .before .before .before .before .before .before .emit) .kept .0
+on-inline-table-open-same-length-3 t c = ((c .before .before .before .before .before .on-array-open .kept .1 .1 .1 .1 .1 .0) ∙ (c .before .before .before .before .before .before .before .before .before .before .before .before .before .before .before .before .before .before .before .inline-table-turn .kept .1 .1 .1 .1 .1 .1 .1 .0)) ∙ (c .before .before .before .before .before .before .before .before .before .before .before .before .before .before .before .before .before .before .before .before .before .before .before .loop) .inv .1 ∙ (c .before .before .before .before .before .before .before .before .before .before .before .before .before .before .before .before .before .before .before .before .before .before .before .before .before .before .before .table-open) .kept .0
 
 on-inline-table-open-same-length-4 : (t : ℕ) → on-inline-table-open-lts.Need-same-length-4 (
-  emit-reads.Asked,
-  emit-reads.Learnt,
+  table-open-reads.Asked,
+  table-open-reads.Learnt,
   action-table-reads.Asked,
   action-table-reads.Learnt,
   inline-table-turn-reads.Asked,
@@ -859,8 +861,8 @@ on-inline-table-open-same-length-4 : (t : ℕ) → on-inline-table-open-lts.Need
 on-inline-table-open-same-length-4 t c = ((c .before .before .before .before .before .on-array-open .kept .1 .1 .1 .1 .1 .1 .0) ∙ (c .before .before .before .before .before .before .before .before .before .before .before .before .before .before .before .before .before .before .before .inline-table-turn .kept .1 .1 .1 .1 .1 .1 .1 .1 .0)) ∙ (c .before .before .before .before .before .before .before .before .before .before .before .before .before .before .before .before .before .before .before .before .before .before .before .loop) .inv .2
 
 on-inline-table-open-returns-3 : (t : ℕ) → on-inline-table-open-lts.Need-returns-3 (
-  emit-reads.Asked,
-  emit-reads.Learnt,
+  table-open-reads.Asked,
+  table-open-reads.Learnt,
   action-table-reads.Asked,
   action-table-reads.Learnt,
   inline-table-turn-reads.Asked,
@@ -870,11 +872,11 @@ on-inline-table-open-returns-3 : (t : ℕ) → on-inline-table-open-lts.Need-ret
   on-inline-table-open-below t,
   on-inline-table-open.Post,
 ) (on-inline-table-open-at t) on-inline-table-open.Post on-inline-table-open-Inv-loop on-inline-table-open-μ-loop
-on-inline-table-open-returns-3 t c = nested-as (open-table _ _ ((c .before .before .before .before .before .before .before .before .before .before .before .before .before .before .before .before .before .before .before .before .before .before .before .before .before .before .before .before .before .before .before .before .before .before .args) .settings .levels) _ _ ((c .before .before .before .before .before .before .before .before .before .before .before .before .before .before .before .before .before .before .before .before .before .before .before .before .before .before .before .before .before .if1) .left)) (nested-item _ _ (λ all. (c .before .before .before .before .before .before .before .before .before .before .before .before .before .before .before .before .before .before .before .before .before .before .before .before .before .before .before .emit) .ensures all _) (array-stop (onOpen ((c .before .before .before .before .before .before .before .before .before .before .before .before .before .before .before .before .before .before .before .before .before .before .before .before .before .before .before .before .before .before .before .before .before .before .args) .settings .levels - 1)) (λ nest. inlineTableTurn (span ((c .before .before .before .before .before .before .before .before .before .before .before .before .before .before .before .before .before .before .before .before .before .before .before .before .before .before .before .before .before .before .before .before .before .before .args) .head .start) ((c .before .before .before .before .before .before .before .before .before .before .before .before .before .before .before .before .before .before .before .before .before .before .before .before .before .before .before .before .before .before .before .before .before .before .args) .head .end)) (count ((c .before .before .before .before .before .before .before .before .before .before .before .before .before .before .before .before .before .before .before .before .before .before .before .before .before .before .before .before .before .before .before .before .before .before .args) .s .now) - (c .before .before .before .before .before .before .before .before .before .before .before .before .before .before .before .before .before .before .before .before .before .before .before .before .before .before .before .before .before .before .before .before .before .before .args) .c .at) nest) (λ f g w. refl) ((c .before .before .before .before .before .before .before .before .before .before .before .before .before .before .before .before .before .before .before .before .before .before .before .loop) .p) ((c .before .before .before .before .before .before .before .before .before .before .before .before .before .before .before .before .before .before .before .before .before .before .before .loop) .inv .0) ((c .before .before .before .before .before .before .before .before .before .before .before .before .before .before .before .before .before .before .before .inline-table-turn) .result .progress) ((c .before .before .before .before .before .before .before .before .before .before .before .before .before .before .before .before .before .before .before .inline-table-turn) .ensures) _ ((c .before .before .before .before .before .before .before .before .before .x) .given .1) ((c .before .before .before .before .before .on-array-open) .ensures) ((c .if2) .taken)))
+on-inline-table-open-returns-3 t c = nested-as (open-table _ _ ((c .before .before .before .before .before .before .before .before .before .before .before .before .before .before .before .before .before .before .before .before .before .before .before .before .before .before .before .before .before .before .before .before .before .before .args) .settings .levels) _ _ ((c .before .before .before .before .before .before .before .before .before .before .before .before .before .before .before .before .before .before .before .before .before .before .before .before .before .before .before .before .before .if1) .left)) (nested-item _ _ (λ all. (c .before .before .before .before .before .before .before .before .before .before .before .before .before .before .before .before .before .before .before .before .before .before .before .before .before .before .before .table-open) .ensures all _) (array-stop (onOpen ((c .before .before .before .before .before .before .before .before .before .before .before .before .before .before .before .before .before .before .before .before .before .before .before .before .before .before .before .before .before .before .before .before .before .before .args) .settings .levels - 1)) (λ nest. inlineTableTurn (span ((c .before .before .before .before .before .before .before .before .before .before .before .before .before .before .before .before .before .before .before .before .before .before .before .before .before .before .before .before .before .before .before .before .before .before .args) .head .start) ((c .before .before .before .before .before .before .before .before .before .before .before .before .before .before .before .before .before .before .before .before .before .before .before .before .before .before .before .before .before .before .before .before .before .before .args) .head .end)) (count ((c .before .before .before .before .before .before .before .before .before .before .before .before .before .before .before .before .before .before .before .before .before .before .before .before .before .before .before .before .before .before .before .before .before .before .args) .s .now) - (c .before .before .before .before .before .before .before .before .before .before .before .before .before .before .before .before .before .before .before .before .before .before .before .before .before .before .before .before .before .before .before .before .before .before .args) .c .at) nest) (λ f g w. refl) ((c .before .before .before .before .before .before .before .before .before .before .before .before .before .before .before .before .before .before .before .before .before .before .before .loop) .p) ((c .before .before .before .before .before .before .before .before .before .before .before .before .before .before .before .before .before .before .before .before .before .before .before .loop) .inv .0) ((c .before .before .before .before .before .before .before .before .before .before .before .before .before .before .before .before .before .before .before .inline-table-turn) .result .progress) ((c .before .before .before .before .before .before .before .before .before .before .before .before .before .before .before .before .before .before .before .inline-table-turn) .ensures) _ ((c .before .before .before .before .before .before .before .before .before .x) .given .1) ((c .before .before .before .before .before .on-array-open) .ensures) ((c .if2) .taken)))
 
 on-inline-table-open-loop-less-2 : (t : ℕ) → on-inline-table-open-lts.Need-loop-less-2 (
-  emit-reads.Asked,
-  emit-reads.Learnt,
+  table-open-reads.Asked,
+  table-open-reads.Learnt,
   action-table-reads.Asked,
   action-table-reads.Learnt,
   inline-table-turn-reads.Asked,
@@ -887,8 +889,8 @@ on-inline-table-open-loop-less-2 : (t : ℕ) → on-inline-table-open-lts.Need-l
 on-inline-table-open-loop-less-2 t c = omega (arith, array-moved (onOpen ((c .before .before .before .before .before .before .before .before .before .before .before .before .before .before .before .before .before .before .before .before .before .before .before .before .before .before .before .before .before .before .before .before .before .before .before .before .args) .settings .levels - 1)) (λ nest. inlineTableTurn (span ((c .before .before .before .before .before .before .before .before .before .before .before .before .before .before .before .before .before .before .before .before .before .before .before .before .before .before .before .before .before .before .before .before .before .before .before .before .args) .head .start) ((c .before .before .before .before .before .before .before .before .before .before .before .before .before .before .before .before .before .before .before .before .before .before .before .before .before .before .before .before .before .before .before .before .before .before .before .before .args) .head .end)) (count ((c .before .before .before .before .before .before .before .before .before .before .before .before .before .before .before .before .before .before .before .before .before .before .before .before .before .before .before .before .before .before .before .before .before .before .before .before .args) .s .now) - (c .before .before .before .before .before .before .before .before .before .before .before .before .before .before .before .before .before .before .before .before .before .before .before .before .before .before .before .before .before .before .before .before .before .before .before .before .args) .c .at) nest) (λ f g w. refl) ((c .before .before .before .before .before .before .before .before .before .before .before .before .before .before .before .before .before .before .before .before .before .before .before .before .before .loop) .p) ((c .before .before .before .before .before .before .before .before .before .before .before .before .before .before .before .before .before .before .before .before .before .before .before .before .before .loop) .inv .0) ((c .before .before .before .before .before .before .before .before .before .before .before .before .before .before .before .before .before .before .before .before .before .inline-table-turn) .result .progress) ((c .before .before .before .before .before .before .before .before .before .before .before .before .before .before .before .before .before .before .before .before .before .inline-table-turn) .ensures) _ ((c .before .before .before .before .before .before .before .before .before .before .before .x) .given .1), (c .before .before .before .before .before .before .before .on-array-open) .ensures .on, (c .before .before .before .before .before .before .before .on-array-open) .ensures .good .low)
 
 on-inline-table-open-loop-again-2 : (t : ℕ) → on-inline-table-open-lts.Need-loop-again-2 (
-  emit-reads.Asked,
-  emit-reads.Learnt,
+  table-open-reads.Asked,
+  table-open-reads.Learnt,
   action-table-reads.Asked,
   action-table-reads.Learnt,
   inline-table-turn-reads.Asked,
@@ -901,8 +903,8 @@ on-inline-table-open-loop-again-2 : (t : ℕ) → on-inline-table-open-lts.Need-
 on-inline-table-open-loop-again-2 t c = (array-again (onOpen ((c .before .before .before .before .before .before .before .before .before .before .before .before .before .before .before .before .before .before .before .before .before .before .before .before .before .before .before .before .before .before .before .before .before .before .before .before .args) .settings .levels - 1)) (λ nest. inlineTableTurn (span ((c .before .before .before .before .before .before .before .before .before .before .before .before .before .before .before .before .before .before .before .before .before .before .before .before .before .before .before .before .before .before .before .before .before .before .before .before .args) .head .start) ((c .before .before .before .before .before .before .before .before .before .before .before .before .before .before .before .before .before .before .before .before .before .before .before .before .before .before .before .before .before .before .before .before .before .before .before .before .args) .head .end)) (count ((c .before .before .before .before .before .before .before .before .before .before .before .before .before .before .before .before .before .before .before .before .before .before .before .before .before .before .before .before .before .before .before .before .before .before .before .before .args) .s .now) - (c .before .before .before .before .before .before .before .before .before .before .before .before .before .before .before .before .before .before .before .before .before .before .before .before .before .before .before .before .before .before .before .before .before .before .before .before .args) .c .at) nest) (λ f g w. refl) ((c .before .before .before .before .before .before .before .before .before .before .before .before .before .before .before .before .before .before .before .before .before .before .before .before .before .loop) .p) ((c .before .before .before .before .before .before .before .before .before .before .before .before .before .before .before .before .before .before .before .before .before .before .before .before .before .loop) .inv .0) ((c .before .before .before .before .before .before .before .before .before .before .before .before .before .before .before .before .before .before .before .before .before .inline-table-turn) .result .progress) ((c .before .before .before .before .before .before .before .before .before .before .before .before .before .before .before .before .before .before .before .before .before .inline-table-turn) .ensures) _ ((c .before .before .before .before .before .before .before .before .before .before .before .x) .given .1) ((c .before .before .before .before .before .before .before .on-array-open) .ensures) ((c .before .before .if2) .left), ((c .before .before .before .before .before .before .before .on-array-open .kept .1 .1 .1 .1 .1 .0) ∙ (c .before .before .before .before .before .before .before .before .before .before .before .before .before .before .before .before .before .before .before .before .before .inline-table-turn .kept .1 .1 .1 .1 .1 .1 .1 .0)) ∙ (c .before .before .before .before .before .before .before .before .before .before .before .before .before .before .before .before .before .before .before .before .before .before .before .before .before .loop) .inv .1, ((c .before .before .before .before .before .before .before .on-array-open .kept .1 .1 .1 .1 .1 .1 .0) ∙ (c .before .before .before .before .before .before .before .before .before .before .before .before .before .before .before .before .before .before .before .before .before .inline-table-turn .kept .1 .1 .1 .1 .1 .1 .1 .1 .0)) ∙ (c .before .before .before .before .before .before .before .before .before .before .before .before .before .before .before .before .before .before .before .before .before .before .before .before .before .loop) .inv .2, (c .before .before .before .before .before .before .before .before .before .before .before .before .before .before .before .before .before .before .before .before .before .before .before .before .before .loop) .inv .3)
 
 on-inline-table-open-enum-known-x-2 : (t : ℕ) → on-inline-table-open-lts.Need-enum-known-x-2 (
-  emit-reads.Asked,
-  emit-reads.Learnt,
+  table-open-reads.Asked,
+  table-open-reads.Learnt,
   action-table-reads.Asked,
   action-table-reads.Learnt,
   inline-table-turn-reads.Asked,
@@ -915,8 +917,8 @@ on-inline-table-open-enum-known-x-2 : (t : ℕ) → on-inline-table-open-lts.Nee
 on-inline-table-open-enum-known-x-2 t c = search needs
 
 on-inline-table-open-on-inline-table-open-requires : (t : ℕ) → on-inline-table-open-lts.Need-on-inline-table-open-requires (
-  emit-reads.Asked,
-  emit-reads.Learnt,
+  table-open-reads.Asked,
+  table-open-reads.Learnt,
   action-table-reads.Asked,
   action-table-reads.Learnt,
   inline-table-turn-reads.Asked,
@@ -929,8 +931,8 @@ on-inline-table-open-on-inline-table-open-requires : (t : ℕ) → on-inline-tab
 on-inline-table-open-on-inline-table-open-requires t c κs = (omega (arith, (c .before .before .before .before .before .before .before .before .before .before .before .before .before .before .before .before .before .before .before .before .before .before .before .if1) .left, (c .before .before .before .before .before .before .before .before .before .before .before .before .before .before .before .before .before .before .before .before .before .before .before .before .before .before .before .before .pre) .0), (c .before .before .before .before .before .before .before .before .before .before .before .before .before .inline-table-turn) .ensures .good)
 
 on-inline-table-open-same-length-5 : (t : ℕ) → on-inline-table-open-lts.Need-same-length-5 (
-  emit-reads.Asked,
-  emit-reads.Learnt,
+  table-open-reads.Asked,
+  table-open-reads.Learnt,
   action-table-reads.Asked,
   action-table-reads.Learnt,
   inline-table-turn-reads.Asked,
@@ -940,11 +942,11 @@ on-inline-table-open-same-length-5 : (t : ℕ) → on-inline-table-open-lts.Need
   on-inline-table-open-below t,
   on-inline-table-open.Post,
 ) (on-inline-table-open-at t) on-inline-table-open.Post on-inline-table-open-Inv-loop on-inline-table-open-μ-loop
-on-inline-table-open-same-length-5 t c = ((c .before .before .before .before .before .on-inline-table-open .kept .1 .1 .1 .1 .1 .0) ∙ (c .before .before .before .before .before .before .before .before .before .before .before .before .before .before .before .before .before .before .before .inline-table-turn .kept .1 .1 .1 .1 .1 .1 .1 .0)) ∙ (c .before .before .before .before .before .before .before .before .before .before .before .before .before .before .before .before .before .before .before .before .before .before .before .loop) .inv .1 ∙ (c .before .before .before .before .before .before .before .before .before .before .before .before .before .before .before .before .before .before .before .before .before .before .before .before .before .before .before .emit) .kept .0
+on-inline-table-open-same-length-5 t c = ((c .before .before .before .before .before .on-inline-table-open .kept .1 .1 .1 .1 .1 .0) ∙ (c .before .before .before .before .before .before .before .before .before .before .before .before .before .before .before .before .before .before .before .inline-table-turn .kept .1 .1 .1 .1 .1 .1 .1 .0)) ∙ (c .before .before .before .before .before .before .before .before .before .before .before .before .before .before .before .before .before .before .before .before .before .before .before .loop) .inv .1 ∙ (c .before .before .before .before .before .before .before .before .before .before .before .before .before .before .before .before .before .before .before .before .before .before .before .before .before .before .before .table-open) .kept .0
 
 on-inline-table-open-same-length-6 : (t : ℕ) → on-inline-table-open-lts.Need-same-length-6 (
-  emit-reads.Asked,
-  emit-reads.Learnt,
+  table-open-reads.Asked,
+  table-open-reads.Learnt,
   action-table-reads.Asked,
   action-table-reads.Learnt,
   inline-table-turn-reads.Asked,
@@ -957,8 +959,8 @@ on-inline-table-open-same-length-6 : (t : ℕ) → on-inline-table-open-lts.Need
 on-inline-table-open-same-length-6 t c = ((c .before .before .before .before .before .on-inline-table-open .kept .1 .1 .1 .1 .1 .1 .0) ∙ (c .before .before .before .before .before .before .before .before .before .before .before .before .before .before .before .before .before .before .before .inline-table-turn .kept .1 .1 .1 .1 .1 .1 .1 .1 .0)) ∙ (c .before .before .before .before .before .before .before .before .before .before .before .before .before .before .before .before .before .before .before .before .before .before .before .loop) .inv .2
 
 on-inline-table-open-returns-4 : (t : ℕ) → on-inline-table-open-lts.Need-returns-4 (
-  emit-reads.Asked,
-  emit-reads.Learnt,
+  table-open-reads.Asked,
+  table-open-reads.Learnt,
   action-table-reads.Asked,
   action-table-reads.Learnt,
   inline-table-turn-reads.Asked,
@@ -968,11 +970,11 @@ on-inline-table-open-returns-4 : (t : ℕ) → on-inline-table-open-lts.Need-ret
   on-inline-table-open-below t,
   on-inline-table-open.Post,
 ) (on-inline-table-open-at t) on-inline-table-open.Post on-inline-table-open-Inv-loop on-inline-table-open-μ-loop
-on-inline-table-open-returns-4 t c = nested-as (open-table _ _ ((c .before .before .before .before .before .before .before .before .before .before .before .before .before .before .before .before .before .before .before .before .before .before .before .before .before .before .before .before .before .before .before .before .before .before .args) .settings .levels) _ _ ((c .before .before .before .before .before .before .before .before .before .before .before .before .before .before .before .before .before .before .before .before .before .before .before .before .before .before .before .before .before .if1) .left)) (nested-item _ _ (λ all. (c .before .before .before .before .before .before .before .before .before .before .before .before .before .before .before .before .before .before .before .before .before .before .before .before .before .before .before .emit) .ensures all _) (table-stop (onOpen ((c .before .before .before .before .before .before .before .before .before .before .before .before .before .before .before .before .before .before .before .before .before .before .before .before .before .before .before .before .before .before .before .before .before .before .args) .settings .levels - 1)) (λ nest. inlineTableTurn (span ((c .before .before .before .before .before .before .before .before .before .before .before .before .before .before .before .before .before .before .before .before .before .before .before .before .before .before .before .before .before .before .before .before .before .before .args) .head .start) ((c .before .before .before .before .before .before .before .before .before .before .before .before .before .before .before .before .before .before .before .before .before .before .before .before .before .before .before .before .before .before .before .before .before .before .args) .head .end)) (count ((c .before .before .before .before .before .before .before .before .before .before .before .before .before .before .before .before .before .before .before .before .before .before .before .before .before .before .before .before .before .before .before .before .before .before .args) .s .now) - (c .before .before .before .before .before .before .before .before .before .before .before .before .before .before .before .before .before .before .before .before .before .before .before .before .before .before .before .before .before .before .before .before .before .before .args) .c .at) nest) (λ f g w. refl) ((c .before .before .before .before .before .before .before .before .before .before .before .before .before .before .before .before .before .before .before .before .before .before .before .loop) .p) ((c .before .before .before .before .before .before .before .before .before .before .before .before .before .before .before .before .before .before .before .before .before .before .before .loop) .inv .0) ((c .before .before .before .before .before .before .before .before .before .before .before .before .before .before .before .before .before .before .before .inline-table-turn) .result .progress) ((c .before .before .before .before .before .before .before .before .before .before .before .before .before .before .before .before .before .before .before .inline-table-turn) .ensures) _ ((c .before .before .before .before .before .before .before .before .before .x2) .given .1) ((c .before .before .before .before .before .on-inline-table-open) .ensures) ((c .if3) .taken)))
+on-inline-table-open-returns-4 t c = nested-as (open-table _ _ ((c .before .before .before .before .before .before .before .before .before .before .before .before .before .before .before .before .before .before .before .before .before .before .before .before .before .before .before .before .before .before .before .before .before .before .args) .settings .levels) _ _ ((c .before .before .before .before .before .before .before .before .before .before .before .before .before .before .before .before .before .before .before .before .before .before .before .before .before .before .before .before .before .if1) .left)) (nested-item _ _ (λ all. (c .before .before .before .before .before .before .before .before .before .before .before .before .before .before .before .before .before .before .before .before .before .before .before .before .before .before .before .table-open) .ensures all _) (table-stop (onOpen ((c .before .before .before .before .before .before .before .before .before .before .before .before .before .before .before .before .before .before .before .before .before .before .before .before .before .before .before .before .before .before .before .before .before .before .args) .settings .levels - 1)) (λ nest. inlineTableTurn (span ((c .before .before .before .before .before .before .before .before .before .before .before .before .before .before .before .before .before .before .before .before .before .before .before .before .before .before .before .before .before .before .before .before .before .before .args) .head .start) ((c .before .before .before .before .before .before .before .before .before .before .before .before .before .before .before .before .before .before .before .before .before .before .before .before .before .before .before .before .before .before .before .before .before .before .args) .head .end)) (count ((c .before .before .before .before .before .before .before .before .before .before .before .before .before .before .before .before .before .before .before .before .before .before .before .before .before .before .before .before .before .before .before .before .before .before .args) .s .now) - (c .before .before .before .before .before .before .before .before .before .before .before .before .before .before .before .before .before .before .before .before .before .before .before .before .before .before .before .before .before .before .before .before .before .before .args) .c .at) nest) (λ f g w. refl) ((c .before .before .before .before .before .before .before .before .before .before .before .before .before .before .before .before .before .before .before .before .before .before .before .loop) .p) ((c .before .before .before .before .before .before .before .before .before .before .before .before .before .before .before .before .before .before .before .before .before .before .before .loop) .inv .0) ((c .before .before .before .before .before .before .before .before .before .before .before .before .before .before .before .before .before .before .before .inline-table-turn) .result .progress) ((c .before .before .before .before .before .before .before .before .before .before .before .before .before .before .before .before .before .before .before .inline-table-turn) .ensures) _ ((c .before .before .before .before .before .before .before .before .before .x2) .given .1) ((c .before .before .before .before .before .on-inline-table-open) .ensures) ((c .if3) .taken)))
 
 on-inline-table-open-loop-less-3 : (t : ℕ) → on-inline-table-open-lts.Need-loop-less-3 (
-  emit-reads.Asked,
-  emit-reads.Learnt,
+  table-open-reads.Asked,
+  table-open-reads.Learnt,
   action-table-reads.Asked,
   action-table-reads.Learnt,
   inline-table-turn-reads.Asked,
@@ -985,8 +987,8 @@ on-inline-table-open-loop-less-3 : (t : ℕ) → on-inline-table-open-lts.Need-l
 on-inline-table-open-loop-less-3 t c = omega (arith, table-moved (onOpen ((c .before .before .before .before .before .before .before .before .before .before .before .before .before .before .before .before .before .before .before .before .before .before .before .before .before .before .before .before .before .before .before .before .before .before .before .before .args) .settings .levels - 1)) (λ nest. inlineTableTurn (span ((c .before .before .before .before .before .before .before .before .before .before .before .before .before .before .before .before .before .before .before .before .before .before .before .before .before .before .before .before .before .before .before .before .before .before .before .before .args) .head .start) ((c .before .before .before .before .before .before .before .before .before .before .before .before .before .before .before .before .before .before .before .before .before .before .before .before .before .before .before .before .before .before .before .before .before .before .before .before .args) .head .end)) (count ((c .before .before .before .before .before .before .before .before .before .before .before .before .before .before .before .before .before .before .before .before .before .before .before .before .before .before .before .before .before .before .before .before .before .before .before .before .args) .s .now) - (c .before .before .before .before .before .before .before .before .before .before .before .before .before .before .before .before .before .before .before .before .before .before .before .before .before .before .before .before .before .before .before .before .before .before .before .before .args) .c .at) nest) (λ f g w. refl) ((c .before .before .before .before .before .before .before .before .before .before .before .before .before .before .before .before .before .before .before .before .before .before .before .before .before .loop) .p) ((c .before .before .before .before .before .before .before .before .before .before .before .before .before .before .before .before .before .before .before .before .before .before .before .before .before .loop) .inv .0) ((c .before .before .before .before .before .before .before .before .before .before .before .before .before .before .before .before .before .before .before .before .before .inline-table-turn) .result .progress) ((c .before .before .before .before .before .before .before .before .before .before .before .before .before .before .before .before .before .before .before .before .before .inline-table-turn) .ensures) _ ((c .before .before .before .before .before .before .before .before .before .before .before .x2) .given .1), (c .before .before .before .before .before .before .before .on-inline-table-open) .ensures .on, (c .before .before .before .before .before .before .before .on-inline-table-open) .ensures .good .low)
 
 on-inline-table-open-loop-again-3 : (t : ℕ) → on-inline-table-open-lts.Need-loop-again-3 (
-  emit-reads.Asked,
-  emit-reads.Learnt,
+  table-open-reads.Asked,
+  table-open-reads.Learnt,
   action-table-reads.Asked,
   action-table-reads.Learnt,
   inline-table-turn-reads.Asked,
@@ -1002,8 +1004,8 @@ pub +on-array-open+on-inline-table-open-spec : {M : Type 1} → statement M
 +on-array-open+on-inline-table-open-spec =
     close μ-on-array-open μ-on-inline-table-open
     (λ t. on-array-open-lts.spec (
-      emit-reads.Asked,
-      emit-reads.Learnt,
+      array-open-reads.Asked,
+      array-open-reads.Learnt,
       array-turns-reads.Asked,
       array-turns-reads.Learnt,
       on-array-open-below t,
@@ -1016,7 +1018,7 @@ pub +on-array-open+on-inline-table-open-spec : {M : Type 1} → statement M
     on-array-open-Inv-loop
     on-array-open-μ-loop
     (on-array-open-returns t)
-    (on-array-open-emit-requires t)
+    (on-array-open-array-open-requires t)
     (on-array-open-sub-left t)
     (on-array-open-loop-holds t)
     (on-array-open-array-turns-requires t)
@@ -1029,10 +1031,10 @@ pub +on-array-open+on-inline-table-open-spec : {M : Type 1} → statement M
     (on-array-open-returns-2 t)
     (on-array-open-sub-depth t)
     (on-array-open-add-left t)
-    (on-array-open-mul-t45 t)
-    (on-array-open-array-read-t48 t)
-    (on-array-open-mul-t49 t)
-    (on-array-open-array-read-t52 t)
+    (on-array-open-mul-inner t)
+    (on-array-open-array-read-inner t)
+    (on-array-open-mul-inner-2 t)
+    (on-array-open-array-read-inner-2 t)
     (on-array-open-loop-less-2 t)
     (on-array-open-loop-again-2 t)
     (on-array-open-enum-known-x t)
@@ -1045,7 +1047,7 @@ pub +on-array-open+on-inline-table-open-spec : {M : Type 1} → statement M
     (on-array-open-array-write-ends t)
     (on-array-open-add-depth t)
     (on-array-open-sub-left-2 t)
-    (on-array-open-emit-requires-2 t)
+    (on-array-open-array-open-requires-2 t)
     (on-array-open-loop-less-3 t)
     (on-array-open-loop-again-3 t)
     (on-array-open-on-array-open-requires t)
@@ -1062,8 +1064,8 @@ pub +on-array-open+on-inline-table-open-spec : {M : Type 1} → statement M
     (on-array-open-loop-less-5 t)
     (on-array-open-loop-again-5 t))
     λ t. on-inline-table-open-lts.spec (
-      emit-reads.Asked,
-      emit-reads.Learnt,
+      table-open-reads.Asked,
+      table-open-reads.Learnt,
       action-table-reads.Asked,
       action-table-reads.Learnt,
       inline-table-turn-reads.Asked,
@@ -1078,9 +1080,9 @@ pub +on-array-open+on-inline-table-open-spec : {M : Type 1} → statement M
     on-inline-table-open-Inv-loop
     on-inline-table-open-μ-loop
     (on-inline-table-open-returns t)
-    (on-inline-table-open-emit-requires t)
+    (on-inline-table-open-table-open-requires t)
     (on-inline-table-open-action-table-requires t)
-    (on-inline-table-open-sub-t37 t)
+    (on-inline-table-open-sub-t34 t)
     (on-inline-table-open-loop-holds t)
     (on-inline-table-open-inline-table-turn-requires t)
     (on-inline-table-open-enum-told t)

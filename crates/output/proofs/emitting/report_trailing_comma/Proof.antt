@@ -2,8 +2,9 @@
 -- Made by ./proofs from Proof.tmpl: change that.
 use native.Mathlib.Omega.{arith}
 use mathlib.Core.Path.{sym}
-use Rattle.output.specs.Pour.{put, bufs, capped}
-use Rattle.output.specs.CapLaws.{capped-low}
+use Rattle.buffer_puts.specs.Puts.{capped}
+use Rattle.output.specs.Pour.{put, bufs}
+use Rattle.buffer_puts.specs.CapLaws.{capped-low}
 use borrow.Author.Needs.{needs}
 use Rattle.output.proofs.emitting.report_trailing_comma.Statement.{statement}
 use Rattle.output.proofs.emitting.report_trailing_comma.Tie as tie

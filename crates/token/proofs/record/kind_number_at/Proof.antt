@@ -1,5 +1,6 @@
 -- The number of the kind is the sum that the layout page has.
 -- Made by ./proofs from Proof.tmpl: change that.
+use Prim.Native.Nat.{_+_, _*_}
 use Rattle.token.specs.Records.{kindNumberAt}
 use borrow.Author.Needs.{needs}
 use Rattle.token.proofs.record.kind_number_at.Statement.{statement}
@@ -34,7 +35,7 @@ add-result c = search needs
 
 returns : tie.Need-returns
 unfolding kindNumberAt
-returns c = cc
+returns c = λ j. (c .before .before .wide) .ensures .0 j + (c .wide2) .ensures .0 j * 256
 
 pub kind-number-at-spec : {M : Type 1} → statement M
 kind-number-at-spec =

@@ -1,7 +1,7 @@
 -- By computation.
 -- Made by ./proofs from Proof.tmpl: change that.
 use mathlib.Core.Path.{refl}
-use Rattle.utf8.specs.Utf8.{fits, validFrom}
+use Rattle.utf8_sequences.specs.Utf8.{fits, validFrom}
 use Rattle.utf8.specs.Sequences.{sequences}
 use Rattle.utf8.proofs.theorems.sequences_as_read.Statement.{statement}
 use Rattle.utf8.proofs.theorems.sequences_as_read.Tie as tie

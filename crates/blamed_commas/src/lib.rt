@@ -1,0 +1,2 @@
+// The comma that the report of a trailing comma is about.
+pub mod commas;

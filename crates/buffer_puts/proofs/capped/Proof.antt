@@ -1,0 +1,26 @@
+-- By the test.
+-- Made by ./proofs from Proof.tmpl: change that.
+use borrow.Author.Tests.{lt-ltb, le-ltb}
+use Rattle.buffer_puts.specs.Puts.{capped}
+use borrow.Author.Needs.{needs}
+use Rattle.buffer_puts.proofs.capped.Statement.{statement}
+use Rattle.buffer_puts.proofs.capped.Tie as tie
+
+cast-result : tie.Need-cast-result
+cast-result c = search needs
+
+returns : tie.Need-returns
+unfolding capped
+returns c = rw (lt-ltb _ _ ((c .if1) .taken))
+
+returns-2 : tie.Need-returns-2
+unfolding capped
+returns-2 c = rw (le-ltb _ _ ((c .if1) .left))
+
+pub capped-spec : {M : Type 1} → statement M
+capped-spec =
+    tie.close
+    (tie.spec
+    cast-result
+    returns
+    returns-2)

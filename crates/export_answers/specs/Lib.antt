@@ -1,0 +1,4 @@
+pub mod Exported
+pub mod Determined
+pub mod Version
+pub mod ExportLaws

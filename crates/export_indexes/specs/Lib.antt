@@ -1,0 +1,2 @@
+pub mod ExportedIndexes
+pub mod IndexExports

@@ -1,0 +1,2 @@
+// The structures of an index of headers as C has them.
+pub mod indexes;

@@ -1,0 +1,2 @@
+pub mod ExportedMistakes
+pub mod MistakeExports

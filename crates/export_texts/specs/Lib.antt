@@ -1,0 +1,4 @@
+pub mod ExportedVerdicts
+pub mod ExportedTexts
+pub mod VerdictExports
+pub mod TextExportLaws

@@ -1,0 +1,2 @@
+// The line of a place, counted from the first token on.
+pub mod points;

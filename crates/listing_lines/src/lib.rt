@@ -1,0 +1,2 @@
+// What the listing program prints, line by line. It calls no entry.
+pub mod printing;
