@@ -2,10 +2,13 @@
  * does for the records of the same lengths and kinds. deckmarten_put_record must write each of these records from its token.
  *
  *   tokens          compare
- *   tokens KIB      read no tokens in a thread with a stack of so many KiB, which a signal ends if that is too little */
+ *   tokens KIB      read no tokens in a thread with a stack of so many KiB, which a signal ends if that is too little
+ *   tokens time     how long four tokens take, and how long their records take at deckmarten_parse_document */
+#define _POSIX_C_SOURCE 200809L
 #include <pthread.h>
 #include <stdio.h>
 #include <stdlib.h>
+#include <time.h>
 
 #include "deckmarten.h"
 #include "lists.h"
@@ -69,7 +72,31 @@ static int read_in_thread(size_t stack) {
     return 0;
 }
 
+/* `a`, `=`, `a` and the end, as tokens and as records, 100,000 times each. */
+static int take_time(void) {
+    static const struct deckmarten_token four[4] = {
+        {1, DECKMARTEN_KIND_ATOM}, {1, DECKMARTEN_KIND_EQUALS}, {1, DECKMARTEN_KIND_ATOM}, {0, DECKMARTEN_KIND_EOF}};
+    uint8_t *end = records;
+    for (int i = 0; i < 4; i++) end = deckmarten_put_record(end, four[i].kind, four[i].length);
+    for (int by_tokens = 1; by_tokens >= 0; by_tokens--) {
+        struct timespec start, stop;
+        size_t read = 0;
+        clock_gettime(CLOCK_MONOTONIC, &start);
+        for (int i = 0; i < 100000; i++) {
+            struct deckmarten_answer answer =
+                by_tokens ? deckmarten_parse_tokens(four, 4, 0, as_crate, events[0], EVENT_WORDS, errors[0], ERROR_WORDS)
+                          : deckmarten_parse_document(records, (size_t)(end - records), 0, as_crate, events[0], EVENT_WORDS, errors[0], ERROR_WORDS);
+            read += answer.events;
+        }
+        clock_gettime(CLOCK_MONOTONIC, &stop);
+        double nanoseconds = 1e9 * (double)(stop.tv_sec - start.tv_sec) + (double)(stop.tv_nsec - start.tv_nsec);
+        printf("four %s: %.0f nanoseconds a call, %zu events\n", by_tokens ? "tokens" : "records", nanoseconds / 100000, read);
+    }
+    return 0;
+}
+
 int main(int count, char **words) {
+    if (count == 2 && !strcmp(words[1], "time")) return take_time();
     if (count == 2) return read_in_thread((size_t)1024 * strtoul(words[1], NULL, 10));
     for (int i = 0; i < LISTS; i++) {
         write_records(&lists[i], records);
