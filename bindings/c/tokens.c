@@ -1,8 +1,7 @@
 /* Tests deckmarten_parse_tokens: for the lists of limits.c, and for wrong ones, it must answer and leave what deckmarten_parse_document
  * does for the records of the same lengths and kinds. deckmarten_put_record must write each of these records from its token.
  *
- *   tokens          compare
- *   tokens KIB      read no tokens in a thread with a stack of so many KiB, which a signal ends if that is too little
+ *   tokens KIB      compare in a thread with a stack of so many KiB; a signal ends the program if that is too little
  *   tokens time     how long four tokens take, and how long their records take at deckmarten_parse_document */
 #define _POSIX_C_SOURCE 200809L
 #include <pthread.h>
@@ -57,19 +56,21 @@ static void compare_wrong(const char *name, const char *bytes) {
     compare(name, 3, 0);
 }
 
-static void *read_none(void *data) {
-    deckmarten_parse_tokens(tokens, 0, 0, as_crate, events[0], 0, errors[0], 0);
+static void *compare_all(void *data) {
+    for (int i = 0; i < LISTS; i++) {
+        write_records(&lists[i], records);
+        compare(lists[i].name, count_records(&lists[i]), 7);
+    }
+    compare("no token", 0, DECKMARTEN_LIMIT_BYTES);
+    compare("base too high", 1, DECKMARTEN_LIMIT_BYTES + 1);
+    compare_wrong("kind 0", "\1\0\0\0\0\0");
+    compare_wrong("kind 17", "\1\0\0\0\21\0");
+    compare_wrong("kind 256 and more", "\1\0\0\0\17\1");
+    compare_wrong("length 0", "\0\0\0\0\17\0");
+    compare_wrong("the greatest length", "\377\377\377\377\17\0");
+    for (size_t i = 0; i < MOST; i++) write_text("a", records + DECKMARTEN_SIZE_RECORD * i);
+    compare("a record too many", MOST, 0);
     return data;
-}
-
-/* The stack has a page below it that must not be touched. */
-static int read_in_thread(size_t stack) {
-    pthread_attr_t attributes;
-    pthread_t thread;
-    if (pthread_attr_init(&attributes) || pthread_attr_setstacksize(&attributes, stack)) return 2;
-    if (pthread_create(&thread, &attributes, read_none, NULL) || pthread_join(thread, NULL)) return 2;
-    printf("%zu bytes of stack are enough\n", stack);
-    return 0;
 }
 
 /* `a`, `=`, `a` and the end, as tokens and as records, 100,000 times each. */
@@ -95,22 +96,14 @@ static int take_time(void) {
     return 0;
 }
 
+/* The thread's stack has a page below it that must not be touched. */
 int main(int count, char **words) {
+    pthread_attr_t attributes;
+    pthread_t thread;
     if (count == 2 && !strcmp(words[1], "time")) return take_time();
-    if (count == 2) return read_in_thread((size_t)1024 * strtoul(words[1], NULL, 10));
-    for (int i = 0; i < LISTS; i++) {
-        write_records(&lists[i], records);
-        compare(lists[i].name, count_records(&lists[i]), 7);
-    }
-    compare("no token", 0, DECKMARTEN_LIMIT_BYTES);
-    compare("base too high", 1, DECKMARTEN_LIMIT_BYTES + 1);
-    compare_wrong("kind 0", "\1\0\0\0\0\0");
-    compare_wrong("kind 17", "\1\0\0\0\21\0");
-    compare_wrong("kind 256 and more", "\1\0\0\0\17\1");
-    compare_wrong("length 0", "\0\0\0\0\17\0");
-    compare_wrong("the greatest length", "\377\377\377\377\17\0");
-    for (size_t i = 0; i < MOST; i++) write_text("a", records + DECKMARTEN_SIZE_RECORD * i);
-    compare("a record too many", MOST, 0);
-    printf("%d lists of tokens are read as their records\n", compared);
+    size_t stack = count == 2 ? (size_t)1024 * strtoul(words[1], NULL, 10) : 0;
+    if (pthread_attr_init(&attributes) || pthread_attr_setstacksize(&attributes, stack)) return 2;
+    if (pthread_create(&thread, &attributes, compare_all, NULL) || pthread_join(thread, NULL)) return 2;
+    printf("%d lists of tokens are read as their records, with %zu bytes of stack\n", compared, stack);
     return 0;
 }
