@@ -308,8 +308,9 @@ struct deckmarten_token {
 };
 
 /* A document whose tokens are structures. The answer and both buffers are those of deckmarten_parse_document for records of the same
- * lengths and kinds. Each call clears 384 KiB of stack, in which it makes the records: four tokens take 18 microseconds, their records
- * at deckmarten_parse_document 59 nanoseconds, and a thread with a stack of 256 KiB is aborted. */
+ * lengths and kinds. Each call clears 384 KiB of stack, in which it makes the records: four tokens take 5.3 microseconds, their records
+ * at deckmarten_parse_document 58 nanoseconds (on an aarch64 machine; docs/USING.md). A stack of 256 KiB is too little, and a signal
+ * ends the program; 512 KiB are enough. */
 struct deckmarten_answer deckmarten_parse_tokens_in(uint32_t mode, const struct deckmarten_token *tokens, size_t count, uint32_t base,
                                                     uint32_t *events, size_t event_words, uint32_t *errors, size_t error_words);
 static inline struct deckmarten_answer deckmarten_parse_tokens(const struct deckmarten_token *tokens, size_t count, uint32_t base,

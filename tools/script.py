@@ -33,6 +33,15 @@ class Script:
         if words:
             self.stop(f"takes no words, and was given '{words[0]}' (--help says what it does)")
 
+    def folder(self, holds, default):
+        """The folder that was given, if one was, which must hold this."""
+        words, _ = self.words()
+        if len(words) > 1:
+            self.stop(f"a word too many: '{words[1]}' (--help has the usage)")
+        if words and not os.path.exists(os.path.join(words[0], holds)):
+            self.stop(f'there is no {os.path.join(words[0], holds)}')
+        return words[0] if words else default
+
     def number(self, word, name, least=0):
         """A number that was given, of 64 bits."""
         if not (word.isascii() and word.isdigit() and len(word) <= 20 and least <= int(word) < 1 << 64):

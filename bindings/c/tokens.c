@@ -1,11 +1,13 @@
 /* Tests deckmarten_parse_tokens: for the lists of limits.c, and for wrong ones, it must answer and leave what deckmarten_parse_document
  * does for the records of the same lengths and kinds. deckmarten_put_record must write each of these records from its token.
  *
- *   tokens          compare
- *   tokens KIB      read no tokens in a thread with a stack of so many KiB, which a signal ends if that is too little */
+ *   tokens KIB      compare in a thread with a stack of so many KiB; a signal ends the program if that is too little
+ *   tokens time     how long four tokens take, and how long their records take at deckmarten_parse_document */
+#define _POSIX_C_SOURCE 200809L
 #include <pthread.h>
 #include <stdio.h>
 #include <stdlib.h>
+#include <time.h>
 
 #include "deckmarten.h"
 #include "lists.h"
@@ -54,23 +56,7 @@ static void compare_wrong(const char *name, const char *bytes) {
     compare(name, 3, 0);
 }
 
-static void *read_none(void *data) {
-    deckmarten_parse_tokens(tokens, 0, 0, as_crate, events[0], 0, errors[0], 0);
-    return data;
-}
-
-/* The stack has a page below it that must not be touched. */
-static int read_in_thread(size_t stack) {
-    pthread_attr_t attributes;
-    pthread_t thread;
-    if (pthread_attr_init(&attributes) || pthread_attr_setstacksize(&attributes, stack)) return 2;
-    if (pthread_create(&thread, &attributes, read_none, NULL) || pthread_join(thread, NULL)) return 2;
-    printf("%zu bytes of stack are enough\n", stack);
-    return 0;
-}
-
-int main(int count, char **words) {
-    if (count == 2) return read_in_thread((size_t)1024 * strtoul(words[1], NULL, 10));
+static void *compare_all(void *data) {
     for (int i = 0; i < LISTS; i++) {
         write_records(&lists[i], records);
         compare(lists[i].name, count_records(&lists[i]), 7);
@@ -84,6 +70,40 @@ int main(int count, char **words) {
     compare_wrong("the greatest length", "\377\377\377\377\17\0");
     for (size_t i = 0; i < MOST; i++) write_text("a", records + DECKMARTEN_SIZE_RECORD * i);
     compare("a record too many", MOST, 0);
-    printf("%d lists of tokens are read as their records\n", compared);
+    return data;
+}
+
+/* `a`, `=`, `a` and the end, as tokens and as records, 100,000 times each. */
+static int take_time(void) {
+    static const struct deckmarten_token four[4] = {
+        {1, DECKMARTEN_KIND_ATOM}, {1, DECKMARTEN_KIND_EQUALS}, {1, DECKMARTEN_KIND_ATOM}, {0, DECKMARTEN_KIND_EOF}};
+    uint8_t *end = records;
+    for (int i = 0; i < 4; i++) end = deckmarten_put_record(end, four[i].kind, four[i].length);
+    for (int by_tokens = 1; by_tokens >= 0; by_tokens--) {
+        struct timespec start, stop;
+        size_t read = 0;
+        clock_gettime(CLOCK_MONOTONIC, &start);
+        for (int i = 0; i < 100000; i++) {
+            struct deckmarten_answer answer =
+                by_tokens ? deckmarten_parse_tokens(four, 4, 0, as_crate, events[0], EVENT_WORDS, errors[0], ERROR_WORDS)
+                          : deckmarten_parse_document(records, (size_t)(end - records), 0, as_crate, events[0], EVENT_WORDS, errors[0], ERROR_WORDS);
+            read += answer.events;
+        }
+        clock_gettime(CLOCK_MONOTONIC, &stop);
+        double nanoseconds = 1e9 * (double)(stop.tv_sec - start.tv_sec) + (double)(stop.tv_nsec - start.tv_nsec);
+        printf("four %s: %.0f nanoseconds a call, %zu events\n", by_tokens ? "tokens" : "records", nanoseconds / 100000, read);
+    }
+    return 0;
+}
+
+/* The thread's stack has a page below it that must not be touched. */
+int main(int count, char **words) {
+    pthread_attr_t attributes;
+    pthread_t thread;
+    if (count == 2 && !strcmp(words[1], "time")) return take_time();
+    size_t stack = count == 2 ? (size_t)1024 * strtoul(words[1], NULL, 10) : 0;
+    if (pthread_attr_init(&attributes) || pthread_attr_setstacksize(&attributes, stack)) return 2;
+    if (pthread_create(&thread, &attributes, compare_all, NULL) || pthread_join(thread, NULL)) return 2;
+    printf("%d lists of tokens are read as their records, with %zu bytes of stack\n", compared, stack);
     return 0;
 }

@@ -13,7 +13,10 @@ static uint32_t mistakes[DECKMARTEN_TEXT_MISTAKE_WORDS(BYTES)];
 
 int main(void) {
     size_t bytes = fread(text, 1, sizeof text, stdin), i;
-    if (ferror(stdin) || bytes > BYTES) return 2;
+    if (ferror(stdin) || bytes > BYTES) {
+        fprintf(stderr, "check: standard input %s\n", ferror(stdin) ? "cannot be read" : "has more than 65,535 bytes");
+        return 2;
+    }
     struct deckmarten_check check =
         deckmarten_check_text(text, bytes, records, sizeof records, events, sizeof events / sizeof *events, errors,
                               sizeof errors / sizeof *errors, mistakes, sizeof mistakes / sizeof *mistakes);

@@ -19,6 +19,7 @@ pub mod frame;
 pub mod generate;
 pub mod grammar;
 pub mod headers;
+pub mod input;
 // the original has a constant that only other files of its crate use
 #[allow(dead_code)]
 pub mod lexer;

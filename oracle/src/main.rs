@@ -10,6 +10,7 @@ use oracle::batch;
 use oracle::batch::number;
 use oracle::generate;
 use oracle::generate::Style;
+use oracle::input;
 use oracle::listing::listing;
 use oracle::notation;
 use oracle::numbers::ERROR_WORDS;
@@ -47,8 +48,8 @@ fn main() -> ExitCode {
 fn run(words: &[&str]) -> Result<(), String> {
     match words {
         ["--batch"] => answer_batch(),
-        ["--text"] => list_text(&input()?),
-        ["--lex"] => match texts::judge(&input()?)? {
+        ["--text"] => list_text(&whole()?),
+        ["--lex"] => match texts::judge(&whole()?)? {
             Text::Tokens { records, .. } => put(&records),
             Text::Refused(refusal) => Err(format!(
                 "refused {} place {}",
@@ -73,10 +74,10 @@ fn run(words: &[&str]) -> Result<(), String> {
 }
 
 /// All that is on standard input.
-fn input() -> Result<Vec<u8>, String> {
+fn whole() -> Result<Vec<u8>, String> {
     let mut bytes = Vec::new();
-    let read = std::io::stdin().read_to_end(&mut bytes);
-    read.map(|_| bytes).map_err(|e| e.to_string())
+    let read = input::open()?.read_to_end(&mut bytes);
+    read.map(|_| bytes).map_err(|e| input::unread(&e))
 }
 
 /// Lists the events and errors of a text, read as a document.
@@ -99,8 +100,8 @@ fn list_text(bytes: &[u8]) -> Result<(), String> {
 /// Of texts in hexadecimal, a line each: `fits`, `does not fit`, or `refused N place P`.
 fn answer_texts() -> Result<(), String> {
     let mut out = std::io::BufWriter::new(std::io::stdout().lock());
-    for line in std::io::stdin().lock().lines() {
-        let line = line.map_err(|e| e.to_string())?;
+    for line in input::open()?.lines() {
+        let line = line.map_err(|e| input::unread(&e))?;
         let text = texts::judge(&batch::bytes([format!("x:{line}").as_str()])?)?;
         let verdict = text.verdict(usize::MAX, usize::MAX);
         let said = match (verdict.refusal, verdict.fits) {
@@ -124,7 +125,7 @@ fn list(entry: Entry, base: u32, options: &[&str]) -> Result<(), String> {
             _ => return Err(USAGE.to_string()),
         }
     }
-    let bytes = input()?;
+    let bytes = whole()?;
     let counts = oracle::judge(entry, base, &bytes, &mut [], &mut []);
     let mut events = vec![0; rooms[0].unwrap_or(counts.events * 4)];
     let mut errors = vec![0; rooms[1].unwrap_or(counts.errors * ERROR_WORDS)];
@@ -135,8 +136,8 @@ fn list(entry: Entry, base: u32, options: &[&str]) -> Result<(), String> {
 /// Answers each line of the input, and stops at the first thing that is wrong.
 fn answer_batch() -> Result<(), String> {
     let mut out = std::io::BufWriter::new(std::io::stdout().lock());
-    for (place, line) in std::io::stdin().lock().lines().enumerate() {
-        let line = line.map_err(|e| e.to_string())?;
+    for (place, line) in input::open()?.lines().enumerate() {
+        let line = line.map_err(|e| input::unread(&e))?;
         let answer = batch::answer_line(&line);
         let answer = answer.map_err(|text| format!("line {}: {text}", place + 1))?;
         writeln!(out, "{answer}").map_err(|e| e.to_string())?;

@@ -31,6 +31,10 @@ fn show(room: &mut Room, name: &str, text: &[u8]) -> bool {
 
 fn main() -> ExitCode {
     let (mut room, mut all_fit) = (Room::new(), true);
+    if std::env::args().len() < 2 {
+        eprintln!("usage: text FILE...");
+        return ExitCode::from(2);
+    }
     for name in std::env::args().skip(1) {
         match std::fs::read(&name) {
             Ok(text) => all_fit &= show(&mut room, &name, &text),

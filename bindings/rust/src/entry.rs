@@ -82,8 +82,9 @@ pub fn parse_value<'b>(records: &[u8], base: u32, options: Options, events: &'b 
 
 /// Reads a document from tokens: what it answers and leaves is what [`parse_document`] does for their records.
 ///
-/// Each call clears 384 KiB of stack, in which the library makes the records: four tokens take 18 microseconds, their records at
-/// [`parse_document`] 59 nanoseconds. In a thread with a stack of 256 KiB it aborts the program.
+/// Each call clears 384 KiB of stack, in which the library makes the records: four tokens take 5.3 microseconds, their records at
+/// [`parse_document`] 58 nanoseconds (on an aarch64 machine; docs/USING.md). A stack of 256 KiB is too little, and a signal ends the
+/// program; 512 KiB are enough.
 ///
 /// ```
 /// use deckmarten::{parse_tokens, Options, Token, TokenKind::*};

@@ -33,6 +33,7 @@ use oracle::batch;
 use oracle::batch::number;
 use oracle::batch::Case;
 use oracle::feeding;
+use oracle::input;
 use oracle::texts::Rooms;
 use oracle::walk;
 use oracle::wrong::Wrong;
@@ -92,8 +93,8 @@ fn run(words: &[&str]) -> Result<(), String> {
             index::all(&mut feed, number(count)?, number(seed)?, folder)?;
         }
         ["--cases"] => {
-            for line in std::io::stdin().lock().lines() {
-                put_line(&mut feed, &line.map_err(|e| e.to_string())?)?;
+            for line in input::open()?.lines() {
+                put_line(&mut feed, &line.map_err(|e| input::unread(&e))?)?;
             }
         }
         _ => return Err(USAGE.to_string()),
