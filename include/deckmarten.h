@@ -9,7 +9,7 @@
 #include <stdint.h>
 
 /* The version of this header: a million times the major number, a thousand times the minor one, and the patch number. */
-#define DECKMARTEN_VERSION 10001
+#define DECKMARTEN_VERSION 10002
 
 #ifdef __cplusplus
 extern "C" {

@@ -12,7 +12,7 @@ pub extern "C" fn deckmarten_version() -> u32
 
 // The same by a name that only this version has: whoever looks for it finds out an archive of another one without a call.
 #[no_mangle]
-pub extern "C" fn deckmarten_version_10001() -> u32
+pub extern "C" fn deckmarten_version_10002() -> u32
     ensures { λ r. ⌜ r ≡ version ⌝ }
 {
     deckmarten_version()

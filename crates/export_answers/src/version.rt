@@ -2,7 +2,7 @@
 ghost use mathlib.Core.Path.{_≡_};
 ghost use Rattle.export_answers.specs.Version.{version};
 
-const VERSION: u32 = 10001;
+const VERSION: u32 = 10002;
 
 pub fn this_version() -> u32
     ensures { λ r. ⌜ r ≡ version ⌝ }
