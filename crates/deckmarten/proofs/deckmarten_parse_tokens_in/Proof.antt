@@ -56,7 +56,7 @@ use Rattle.export_answers.proofs.answer.ExportedAnswer as E
 use Rattle.export_answers.proofs.answer.ExportedAnswer.Laws as E′
 use Rattle.export_answers.proofs.answer.exported as exported
 use Rattle.export_answers.proofs.answer.exported.Symbol as exported-def
-use Rattle.export_answers.proofs.answer.exported.Symbol.{name as #exports·answer·exported}
+use Rattle.export_answers.proofs.answer.exported.Symbol.{name as #export-answers·answer·exported}
 use Rattle.export_answers.proofs.answer.exported.Met as exported-thm
 use Rattle.deckmarten.proofs.deckmarten_parse_tokens_in.Key.{name as #deckmarten·deckmarten-parse-tokens-in}
 use Rattle.deckmarten.proofs.deckmarten_parse_tokens_in as exporting
@@ -135,7 +135,7 @@ module _ {M : Type 1} (𝓤 : URA M) (H : Heap 𝓤) (A : Atoms 𝓤) (W : Given
       qed W (‵ (R.the-row .own r (v ∷ [])) ∷ []) ∵ suffices ! _ (asks-nothing _) $
       nothing ! $ frame ! $ nothing ! $ move ! (1 ∷ 0 ∷ []) $ fjoin ! $ done !
 
-  module _ (C : Calls 𝓤 H) (Λ : Loops 𝓤 H) (fm : FmC 𝓤 H (W .laws) C) (known-parse : Triple 𝓤 (C #structs·parse-tokens) (Parse 𝓤 H A mem run)) (known-export : Triple 𝓤 (C #exports·answer·exported) (Export 𝓤 H A mem run)) where
+  module _ (C : Calls 𝓤 H) (Λ : Loops 𝓤 H) (fm : FmC 𝓤 H (W .laws) C) (known-parse : Triple 𝓤 (C #structs·parse-tokens) (Parse 𝓤 H A mem run)) (known-export : Triple 𝓤 (C #export-answers·answer·exported) (Export 𝓤 H A mem run)) where
     walk : Room T.the-row (length (tokens .now)) → Room u32 (length (events .now)) → Room u32 (length (errors .now))
         → ent 𝓤 (onEntry 𝓤 H A exporting.signature (κ₁, (κ₂, (κ₃, tt))) (q₁, (q₂, (q₃, tt))) a at) (WpFn 𝓤 H C Λ code.function (vint w32 mode ∷ slice tokens ∷ vint w32 base ∷ (slice events) ∷ (slice errors) ∷ []) Post)
     walk gn ge gr =
@@ -175,14 +175,14 @@ module _ {M : Type 1} (𝓤 : URA M) (H : Heap 𝓤) (A : Atoms 𝓤) (W : Given
         keep ! (3 ∷ 10 ∷ 6 ∷ 4 ∷ 0 ∷ []) $ by ! (exits p x w (us .1 .1 .1 .0) (us .1 .1 .1 .1 .0) f e k₂ k₃))))))))))))))))))))))))
 
 module _ {M : Type 1} (𝓤 : URA M) (H : Heap 𝓤) (A : Atoms 𝓤) (W : Given 𝓤 H A) (mem : Memory → SProp 𝓤) (run : Routine → Fun 𝓤) where
-  exporting-walks : (C : Calls 𝓤 H) (Λ : Loops 𝓤 H) → FmC 𝓤 H (W .laws) C → Triple 𝓤 (C #structs·parse-tokens) (Parse 𝓤 H A mem run) → Triple 𝓤 (C #exports·answer·exported) (Export 𝓤 H A mem run) → Walks 𝓤 H A exporting.ended stayed (WpFn 𝓤 H C Λ code.function) (exporting.clauses 𝓤 H A mem run)
+  exporting-walks : (C : Calls 𝓤 H) (Λ : Loops 𝓤 H) → FmC 𝓤 H (W .laws) C → Triple 𝓤 (C #structs·parse-tokens) (Parse 𝓤 H A mem run) → Triple 𝓤 (C #export-answers·answer·exported) (Export 𝓤 H A mem run) → Walks 𝓤 H A exporting.ended stayed (WpFn 𝓤 H C Λ code.function) (exporting.clauses 𝓤 H A mem run)
   exporting-walks C Λ fm known-parse known-export = walked 𝓤 H A exporting.ended stayed (exporting.clauses 𝓤 H A mem run) (WpFn 𝓤 H C Λ code.function) (λ κs. (uint-vals w32, (slice-vals, (uint-vals w32, (slice-vals, (slice-vals, tt))))))
       (λ κs. (uint-tells w32, (shr-slice-tells (named 0) (κs .0) T.the-row, (uint-tells w32, (mut-slice-tells (named 1) (κs .1 .0) u32, (mut-slice-tells (named 2) (κs .1 .1 .0) u32, tt))))))
       (λ κs qs bounds a g are. via 𝓤 _ (fst∗ 𝓤 _ (emp 𝓤))
       (walk 𝓤 H A W mem run (κs .0) (κs .1 .0) (κs .1 .1 .0) (qs .0) (qs .1 .0) (qs .1 .1 .0) (a .0) (a .1 .0) (a .1 .1 .0) (a .1 .1 .1 .0) (a .1 .1 .1 .1 .0) (are .1 .1 .0 .1) (are .0 .1)
       C Λ fm known-parse known-export (are .1 .0 .0 .1) (are .1 .1 .1 .0 .0 .1) (are .1 .1 .1 .1 .0 .0 .1)))
 
-exporting-meets : {M : Type 1} (𝓤 : URA M) (H : Heap 𝓤) (A : Atoms 𝓤) → Given 𝓤 H A → (mem : Memory → SProp 𝓤) (run : Routine → Fun 𝓤) (𝓣 : Tables 𝓤 H) → Triple 𝓤 (𝓣 .C #structs·parse-tokens) (Parse 𝓤 H A mem run) → Triple 𝓤 (𝓣 .C #exports·answer·exported) (Export 𝓤 H A mem run)
+exporting-meets : {M : Type 1} (𝓤 : URA M) (H : Heap 𝓤) (A : Atoms 𝓤) → Given 𝓤 H A → (mem : Memory → SProp 𝓤) (run : Routine → Fun 𝓤) (𝓣 : Tables 𝓤 H) → Triple 𝓤 (𝓣 .C #structs·parse-tokens) (Parse 𝓤 H A mem run) → Triple 𝓤 (𝓣 .C #export-answers·answer·exported) (Export 𝓤 H A mem run)
     → Meets 𝓤 H A exporting.signature (WpFn 𝓤 H (𝓣 .C) (𝓣 .Λ) code.function) (exporting.spec 𝓤 H A mem run)
 exporting-meets 𝓤 H A W mem run 𝓣 known-parse known-export =
     walk-meets 𝓤 H A exporting.ended stayed W
@@ -196,4 +196,4 @@ deckmarten-parse-tokens-in-spec 𝓤 H 𝓜 𝓖 𝓡 =
     (tables 𝓤 H 𝓜 𝓡 code.env .C) (tables 𝓤 H 𝓜 𝓡 code.env .Λ) #deckmarten·deckmarten-parse-tokens-in code.function (code.unfolded 𝓤 H 𝓜 𝓡)
     (exporting-meets 𝓤 H (𝓖 .A) (givenOf 𝓤 H 𝓜 𝓖) (𝓜 .mem) (𝓡 .run) (tablesOf 𝓤 H 𝓜 (tables 𝓤 H 𝓜 𝓡 code.env))
     (cited 𝓤 H (Parse 𝓤 H (𝓖 .A) (𝓜 .mem) (𝓡 .run)) 𝓜 𝓡 code.env #structs·parse-tokens parse-tokens-def.routine code.calls-structs·parse-tokens (parse-tokens-thm.met 𝓤 H 𝓜 𝓖 𝓡))
-    (cited 𝓤 H (Export 𝓤 H (𝓖 .A) (𝓜 .mem) (𝓡 .run)) 𝓜 𝓡 code.env #exports·answer·exported exported-def.routine code.calls-exports·answer·exported (exported-thm.met 𝓤 H 𝓜 𝓖 𝓡)))
+    (cited 𝓤 H (Export 𝓤 H (𝓖 .A) (𝓜 .mem) (𝓡 .run)) 𝓜 𝓡 code.env #export-answers·answer·exported exported-def.routine code.calls-export-answers·answer·exported (exported-thm.met 𝓤 H 𝓜 𝓖 𝓡)))
