@@ -1,11 +1,10 @@
 -- From the index's answer to the C structure that holds it. Proved; nothing here needs to be believed.
-use mathlib.Core.Path.{_≡_, ap, sym, subst, _∙_}
+use mathlib.Core.Path.{_≡_, sym, subst}
 use mathlib.Core.List.{List}
 use Prim.Native.Nat.{ℕ}
 use Rattle.rules.specs.declared.answer.Answer.{Answer}
 use Rattle.index.specs.declared.Indexed.{Indexed}
 use Rattle.index.specs.Outcome.{Indexes}
-use Rattle.export_answers.specs.declared.answer.ExportedAnswer.{ExportedAnswer}
 use Rattle.export_indexes.specs.declared.indexes.ExportedIndexed.{ExportedIndexed}
 use Rattle.export_indexes.specs.ExportedIndexes.{plainIndexed, ExportsIndex}
 

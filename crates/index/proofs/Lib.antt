@@ -2,4 +2,3 @@ pub mod WalkLaws
 pub mod IndexLaws
 pub mod AgainLaws
 pub mod RunLaws
-pub mod Again

@@ -26,7 +26,7 @@ use Rattle.bounds.specs.Bounds.{more-events}
 use Rattle.bounds.specs.CountLaws.{room-events}
 use Rattle.rules.proofs.BufferLaws.{word-in}
 use Rattle.rules.proofs.OutcomeLaws.{events-sized}
-use Rattle.event_names.specs.Numbers.{Named}
+use Rattle.listing_lines.specs.Numbers.{Named}
 use Rattle.listing_lines.specs.Printable.{AllNamed, Printable}
 
 -- the first word of each event in the rules' list

@@ -5,7 +5,7 @@ use mathlib.Core.List.{List}
 use lib.ListN.{length, getD}
 use Rattle.rules.specs.declared.answer.Answer.{Answer}
 use Rattle.rules.specs.Answer.{eventSize, errorSize}
-use Rattle.event_names.specs.Numbers.{Named}
+use Rattle.listing_lines.specs.Numbers.{Named}
 
 -- each of the first events in a buffer has the number of an event kind as its first word
 abbrev pub AllNamed : List ℕ → ℕ → Type 0

@@ -1,5 +1,5 @@
 // The lines of a listing, written to standard output.
-use event_names::print_name;
+use crate::naming::print_name;
 use rules::answer::Answer;
 use rules::answer::ERROR_WORDS;
 use rules::answer::EVENT_WORDS;
@@ -7,7 +7,7 @@ ghost use mathlib.Core.Path.{_≡_};
 ghost use Prim.Native.Nat.{_+_, _*_, _≤_};
 ghost use lib.ListN.{getD, length};
 ghost use Rattle.rules.specs.Answer.{errorSize, eventSize};
-ghost use Rattle.event_names.specs.Numbers.{Named};
+ghost use Rattle.listing_lines.specs.Numbers.{Named};
 ghost use Rattle.listing_lines.specs.Printable.{AllNamed, Printable};
 
 // A space and the number n.

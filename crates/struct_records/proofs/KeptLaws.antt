@@ -1,7 +1,7 @@
 -- What is read from the records of structs is what the structs hold. Proved; nothing here needs to be believed.
 use mathlib.Core.Path.{_≡_, _∙_}
 use mathlib.Core.List.{List, [], _∷_, _++_}
-use Prim.Native.Nat.{ℕ, _<_, _^_}
+use Prim.Native.Nat.{_<_, _^_}
 use lib.ListN.{length}
 use Rattle.token.specs.Records.{lengthAt, kindNumberAt}
 use Rattle.token.specs.ReadingLaws.{first-length, first-kind, length-behind, kind-behind}

@@ -43,7 +43,7 @@ use Rattle.rules.proofs.answer.Answer.Laws as R′
 use Rattle.choices.specs.Modes.{AnswersIn}
 use Rattle.struct_records.specs.Structs.{recordsOf}
 use Rattle.struct_records.specs.declared.Token.{Token}
-use Rattle.struct_records.proofs.Again.{slice}
+use Rattle.lent_slices.proofs.Again.{slice}
 use Rattle.struct_records.proofs.Token as T
 use Rattle.structs.proofs.parse_tokens as parse-tokens
 use Rattle.structs.proofs.parse_tokens.Symbol as parse-tokens-def

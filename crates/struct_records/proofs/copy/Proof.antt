@@ -54,7 +54,7 @@ use Rattle.struct_records.specs.declared.Token.{Token}
 use Rattle.struct_records.proofs.StructLaws.{none, Copied, copy-step, copy-done}
 use Rattle.struct_records.proofs.Token as T
 use Rattle.struct_records.proofs.Token.Laws as T′
-use Rattle.struct_records.proofs.Again.{LentAgain, lends-again, comes-back}
+use Rattle.lent_slices.proofs.Again.{LentAgain, lends-again, comes-back}
 use Rattle.struct_records.proofs.put as put
 use Rattle.struct_records.proofs.put.Symbol as put-def
 use Rattle.struct_records.proofs.put.Symbol.{name as #struct-records·put}

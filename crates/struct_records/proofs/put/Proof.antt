@@ -1,7 +1,6 @@
 -- The record writer of the token layer, with the struct's length and kind.
 -- Made by ./proofs from Proof.tmpl: change that.
 use native.Mathlib.Omega.{arith}
-use Rattle.token.specs.WritingLaws.{put-length}
 use borrow.Author.Needs.{needs}
 use Rattle.struct_records.proofs.put.Statement.{statement}
 use Rattle.struct_records.proofs.put.Tie as tie

@@ -48,7 +48,7 @@ use Rattle.struct_records.specs.Structs.{recordsOf}
 use Rattle.struct_records.specs.declared.Token.{Token}
 use Rattle.struct_records.proofs.StructLaws.{first-records}
 use Rattle.struct_records.proofs.Token as T
-use Rattle.struct_records.proofs.Again.{slice, LentAgain, lends-again, comes-back}
+use Rattle.lent_slices.proofs.Again.{slice, LentAgain, lends-again, comes-back}
 use Rattle.struct_records.proofs.copy as copy
 use Rattle.struct_records.proofs.copy.Symbol as copy-def
 use Rattle.struct_records.proofs.copy.Symbol.{name as #struct-records·copy}

@@ -1,6 +1,5 @@
 -- One case of what stands there an arm.
 -- Made by ./proofs from Proof.tmpl: change that.
-use mathlib.Core.Path.{_≡_, refl, sym, _∙_}
 use borrow.Author.Needs.{needs}
 use Rattle.export_indexes.proofs.indexes.exported_header.Statement.{statement}
 use Rattle.export_indexes.proofs.indexes.exported_header.Tie as tie

@@ -1,7 +1,7 @@
 -- Both hold the same answer, and a C structure is known by what it holds.
 -- what a C structure and the buffer behind it hold
 -- Made by ./proofs from Proof.tmpl: change that.
-use mathlib.Core.Path.{_≡_, sym, subst, _∙_}
+use mathlib.Core.Path.{sym, subst, _∙_}
 use Rattle.rules.specs.declared.answer.Answer.{Answer}
 use Rattle.index.specs.Outcome.{IndexOutcome, IndexDetermined}
 use Rattle.export_indexes.specs.ExportedIndexes.{plainIndexed, ExportedIndexOutcome}

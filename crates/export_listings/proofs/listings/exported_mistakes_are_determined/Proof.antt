@@ -1,7 +1,7 @@
 -- Both hold the same answer, and a C structure is known by what it holds.
 -- the C structures that hold an answer, with its buffers
 -- Made by ./proofs from Proof.tmpl: change that.
-use mathlib.Core.Path.{_≡_, sym, _∙_}
+use mathlib.Core.Path.{sym, _∙_}
 use Rattle.mistake_rules.specs.Outcome.{Listing}
 use Rattle.text_listing.specs.Checking.{CheckOutcome}
 use Rattle.export_listings.specs.ExportedMistakes.{ExportedListing, ExportedCheckOutcome}

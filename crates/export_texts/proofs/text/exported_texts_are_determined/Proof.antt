@@ -1,7 +1,7 @@
 -- Both hold the same answer, and a C structure is known by what it holds.
 -- the C structures that hold an answer, with its buffers
 -- Made by ./proofs from Proof.tmpl: change that.
-use mathlib.Core.Path.{_≡_, sym, _∙_}
+use mathlib.Core.Path.{sym, _∙_}
 use Rattle.lex.specs.Lexed.{LexOutcome}
 use Rattle.text_rules.specs.TextOutcome.{TextOutcome}
 use Rattle.text_steps.specs.TextVerdicts.{TextJudgement}

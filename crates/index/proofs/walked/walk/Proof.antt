@@ -52,7 +52,7 @@ use Rattle.rules.specs.Answer.{eventSize}
 use Rattle.headers.specs.Headers.{opensHeader, kindsFrom, headersIn, indexBytes, entrySize}
 use Rattle.headers.specs.States.{stateAfter, stateBehind, Finished, Walkable}
 use Rattle.headers.specs.declared.state.IndexState.{IndexState}
-use Rattle.index.proofs.Again.{LentAgain, lends-again, comes-back}
+use Rattle.lent_slices.proofs.Again.{LentAgain, lends-again, comes-back}
 use Rattle.headers.proofs.CountLaws.{event-held}
 use Rattle.index.proofs.walked.WalkCalls.{slice, mach, typed-word, typed-half, KindAt, Before, Note, Last, Known, to-kind, to-before, to-note, to-last, kind-of, goes-kind, goes-before, goes-note, goes-last}
 use Rattle.index.proofs.WalkLaws.{Walking, walking-begun, turn-fits, walking-on, last-fits, walking-end, end-state}

@@ -1,5 +1,5 @@
 // The names of the events, written to standard output.
-ghost use Rattle.event_names.specs.Numbers.{Named};
+ghost use Rattle.listing_lines.specs.Numbers.{Named};
 
 // The name of the event kind k; 17 is all that is left for the last arm. Answers whether the writing went well.
 pub fn print_name(k: u32) -> bool
