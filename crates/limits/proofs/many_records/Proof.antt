@@ -4,6 +4,8 @@ use native.Mathlib.Omega.{arith}
 use borrow.Author.Needs.{needs}
 use Rattle.limits.proofs.many_records.Statement.{statement}
 use Rattle.limits.proofs.many_records.Tie as tie
+use Rattle.limits.proofs.many_records.Reads as reads
+use Rattle.limits.proofs.many_records.Lts as lts
 
 slice-aggregate-show-records : tie.Need-slice-aggregate-show-records
 slice-aggregate-show-records c = search needs
@@ -12,7 +14,7 @@ show-records-requires : tie.Need-show-records-requires
 show-records-requires c κs = omega (arith, (c .before .pre))
 
 returns : tie.Need-returns
-returns c = search needs
+returns c = tt
 
 pub many-records-spec : {M : Type 1} → statement M
 many-records-spec =
