@@ -1,11 +1,11 @@
 // Arrays: one turn.
-use array_parts::brackets::without_open;
 use array_parts::parts::comma;
 use array_parts::parts::missing_comma;
 use array_parts::turn::Next;
 use array_parts::turn::Turn;
 use array_parts::turn::unclosed;
 use classes::array::in_array;
+use lone_brackets::without_open;
 use output::emitting::Counts;
 use output::emitting::Walk;
 use output::emitting::emit;

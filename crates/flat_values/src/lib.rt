@@ -1,5 +1,5 @@
 // A value that opens no bracket, and what stands where a value should.
-use array_parts::brackets::without_open;
+use lone_brackets::without_open;
 use output::emitting::Counts;
 use output::emitting::Walk;
 use output::emitting::emit;
