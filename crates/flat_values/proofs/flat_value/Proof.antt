@@ -14,8 +14,6 @@ use Rattle.flat_values.proofs.Unread.{unread}
 use borrow.Author.Needs.{needs}
 use Rattle.flat_values.proofs.flat_value.Statement.{statement}
 use Rattle.flat_values.proofs.flat_value.Tie as tie
-use Rattle.flat_values.proofs.flat_value.Reads as reads
-use Rattle.flat_values.proofs.flat_value.Lts as lts
 
 enum-told : tie.Need-enum-told
 enum-told c = search needs

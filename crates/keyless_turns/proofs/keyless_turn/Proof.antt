@@ -10,8 +10,6 @@ use Rattle.keyless_turns.proofs.KeylessLaws.{rest}
 use borrow.Author.Needs.{needs}
 use Rattle.keyless_turns.proofs.keyless_turn.Statement.{statement}
 use Rattle.keyless_turns.proofs.keyless_turn.Tie as tie
-use Rattle.keyless_turns.proofs.keyless_turn.Reads as reads
-use Rattle.keyless_turns.proofs.keyless_turn.Lts as lts
 
 enum-told : tie.Need-enum-told
 enum-told c = search needs

@@ -4,8 +4,6 @@ use native.Mathlib.Omega.{arith}
 use borrow.Author.Needs.{needs}
 use Rattle.limits.proofs.many_records.Statement.{statement}
 use Rattle.limits.proofs.many_records.Tie as tie
-use Rattle.limits.proofs.many_records.Reads as reads
-use Rattle.limits.proofs.many_records.Lts as lts
 
 slice-aggregate-show-records : tie.Need-slice-aggregate-show-records
 slice-aggregate-show-records c = search needs

@@ -9,8 +9,6 @@ use Rattle.list_ends.proofs.LeftoverLaws.{eof-at, eof-rest}
 use borrow.Author.Needs.{needs}
 use Rattle.list_ends.proofs.eof.Statement.{statement}
 use Rattle.list_ends.proofs.eof.Tie as tie
-use Rattle.list_ends.proofs.eof.Reads as reads
-use Rattle.list_ends.proofs.eof.Lts as lts
 
 next-requires : tie.Need-next-requires
 next-requires c κs = (c .before .before .before .pre)

@@ -15,8 +15,6 @@ use Rattle.list_ends.proofs.LeftoverLaws.{leftover-at, leftover-rest}
 use borrow.Author.Needs.{needs}
 use Rattle.list_ends.proofs.errors_to_end.Statement.{statement}
 use Rattle.list_ends.proofs.errors_to_end.Tie as tie
-use Rattle.list_ends.proofs.errors_to_end.Reads as reads
-use Rattle.list_ends.proofs.errors_to_end.Lts as lts
 
 abbrev Inv-loop : tie.InvT-loop
 Inv-loop s events₀ errors cur₀ n₀ events cur n =

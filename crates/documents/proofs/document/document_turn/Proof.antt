@@ -16,8 +16,6 @@ use Rattle.documents.proofs.KeyTurnLaws.{Met, meet, any-of, begun-key, 
 use borrow.Author.Needs.{needs}
 use Rattle.documents.proofs.document.document_turn.Statement.{statement}
 use Rattle.documents.proofs.document.document_turn.Tie as tie
-use Rattle.documents.proofs.document.document_turn.Reads as reads
-use Rattle.documents.proofs.document.document_turn.Lts as lts
 
 next-requires : tie.Need-next-requires
 next-requires c κs = (c .before .before .before .pre)

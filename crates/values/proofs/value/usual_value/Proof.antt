@@ -8,8 +8,6 @@ use Rattle.values.proofs.ValueLaws.{value-is}
 use borrow.Author.Needs.{needs}
 use Rattle.values.proofs.value.usual_value.Statement.{statement}
 use Rattle.values.proofs.value.usual_value.Tie as tie
-use Rattle.values.proofs.value.usual_value.Reads as reads
-use Rattle.values.proofs.value.usual_value.Lts as lts
 
 next-requires : tie.Need-next-requires
 next-requires c κs = (c .before .before .before .pre)

@@ -19,8 +19,6 @@ use Rattle.values.proofs.ValueLaws.{value-at, value-flat, finish-nested
 use borrow.Author.Needs.{needs}
 use Rattle.values.proofs.value.value.Statement.{statement}
 use Rattle.values.proofs.value.value.Tie as tie
-use Rattle.values.proofs.value.value.Reads as reads
-use Rattle.values.proofs.value.value.Lts as lts
 
 abbrev Inv-loop : tie.InvT-loop
 Inv-loop s settings events₀ errors₀ cur₀ n₀ events errors cur n =
