@@ -1,4 +1,3 @@
-// What a turn in an array is made of, a closing bracket that nothing opened, and what a turn in an array or an inline table promises. Each function is proved equal to its rule.
-pub mod brackets;
+// What a turn in an array is made of, and what a turn in an array or an inline table promises. Each function is proved equal to its rule.
 pub mod parts;
 pub mod turn;

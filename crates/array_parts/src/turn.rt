@@ -1,7 +1,6 @@
 // One turn in an array or an inline table: what is to be done after it.
 use backward_search::nearest_before;
 use output::emitting::Counts;
-use output::emitting::Walk;
 use output::emitting::emit;
 use output::emitting::report;
 use rules::event::Event;
@@ -30,41 +29,6 @@ pub struct Turn {
     pub cur: Cursor,
     pub n: Counts,
     pub next: Next,
-}
-
-// Another turn, from where a walk ended.
-pub fn again(w: Walk) -> Turn
-    ensures { λ r. ⌜ r ≡ record { cur = w .cur; n = w .n; next = Next.Again } ⌝ }
-{
-    let cur = w.cur;
-    let n = w.n;
-    Turn {
-        cur,
-        n,
-        next: Next::Again,
-    }
-}
-
-// The end of the array or the table.
-pub fn over(w: Walk) -> Turn
-    ensures { λ r. ⌜ r ≡ record { cur = w .cur; n = w .n; next = Next.Over } ⌝ }
-{
-    let cur = w.cur;
-    let n = w.n;
-    Turn {
-        cur,
-        n,
-        next: Next::Over,
-    }
-}
-
-// First what a bracket opens.
-pub fn opening(w: Walk, next: Next) -> Turn
-    ensures { λ r. ⌜ r ≡ record { cur = w .cur; n = w .n; next = next } ⌝ }
-{
-    let cur = w.cur;
-    let n = w.n;
-    Turn { cur, n, next }
 }
 
 // The list is exhausted in what `head` opened: a report, and an array's close after the nearest significant token.

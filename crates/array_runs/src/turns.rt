@@ -37,13 +37,7 @@ pub fn array_turns(
                 n = turn.n;
                 state = a.state;
             }
-            Next::Over => {
-                return a;
-            }
-            Next::OpenArray(_) => {
-                return a;
-            }
-            Next::OpenTable(_) => {
+            _ => {
                 return a;
             }
         }

@@ -55,9 +55,8 @@ isScalar InArray.Scalar = true
 pub array-starts : (k : Kind) (x : InArray) → x ≡ inArray k → x ≡ InArray.Scalar → Starts (startingOf k)
 array-starts = class-starts inArray isScalar InArray.Scalar refl (every-kind (ScalarsStart inArray isScalar) tt tt tt tt tt tt tt tt tt tt tt tt tt tt tt tt)
 
--- an answer that is made by functions
+-- an answer that is made by a function
 module _ {s : List ℕ} {c : Cursor} {o : Bufs} {a b : List ℕ} where
-  pub array-as : {rule : Nest → (ArrayState → List Tok → Out) → Out} {r : ArrayTurn} {t t' : Turn} {w : ArrayState} → r ≡ record { turn = t; state = w } → t ≡ t' → Turned ArrayState s rule c o a b (t' .cur) (t' .n) w (t' .next) → Wants (t' .next) w
+  pub array-as : {rule : Nest → (ArrayState → List Tok → Out) → Out} {r : ArrayTurn} {t : Turn} {w : ArrayState} → r ≡ record { turn = t; state = w } → Turned ArrayState s rule c o a b (t .cur) (t .n) w (t .next) → Wants (t .next) w
       → Turned ArrayState s rule c o a b (r .turn .cur) (r .turn .n) (r .state) (r .turn .next) × Wants (r .turn .next) (r .state)
-  array-as {rule} {w = w} e f x y =
-      subst (λ (z : ArrayTurn). Turned ArrayState s rule c o a b (z .turn .cur) (z .turn .n) (z .state) (z .turn .next) × Wants (z .turn .next) (z .state)) (sym (e ∙ ap (λ (t : Turn). record { turn = t; state = w }) f)) (x, y)
+  array-as {rule} e x y = subst (λ (z : ArrayTurn). Turned ArrayState s rule c o a b (z .turn .cur) (z .turn .n) (z .state) (z .turn .next) × Wants (z .turn .next) (z .state)) (sym e) (x, y)

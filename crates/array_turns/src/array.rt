@@ -1,14 +1,11 @@
 // Arrays: one turn.
-use array_parts::brackets::without_open;
 use array_parts::parts::comma;
 use array_parts::parts::missing_comma;
 use array_parts::turn::Next;
 use array_parts::turn::Turn;
-use array_parts::turn::again;
-use array_parts::turn::opening;
-use array_parts::turn::over;
 use array_parts::turn::unclosed;
 use classes::array::in_array;
+use lone_brackets::without_open;
 use output::emitting::Counts;
 use output::emitting::Walk;
 use output::emitting::emit;
@@ -30,7 +27,9 @@ ghost use mathlib.Core.Path.{_≡_};
 ghost use Rattle.token.specs.Tokens.{Good, tokensAt};
 ghost use Rattle.rules.specs.Out.{span};
 ghost use Rattle.rules.specs.Array.{arrayTurn};
+ghost use Rattle.rules.specs.declared.array.ArrayState.{ArrayState};
 ghost use Rattle.output.specs.Pour.{bufs};
+ghost use Rattle.array_parts.specs.declared.turn.Next.{Next};
 ghost use Rattle.array_parts.specs.Turning.{Turned, Wants};
 
 // A turn, and the state behind it.
@@ -39,11 +38,46 @@ pub struct ArrayTurn {
     pub state: ArrayState,
 }
 
-// A turn behind which the array is in a state, and so wants a value or a comma.
-fn wanting(turn: Turn, state: ArrayState) -> ArrayTurn
-    ensures { λ r. ⌜ r ≡ record { turn = turn; state = state } ⌝ }
+// Another turn, behind which the array is in a state, and so wants a value or a comma.
+fn again(cur: Cursor, n: Counts, state: ArrayState) -> ArrayTurn
+    ensures { λ r. ⌜ r ≡ record { turn = record { cur = cur; n = n; next = Next.Again }; state = state } ⌝ }
 {
+    let turn = Turn {
+        cur,
+        n,
+        next: Next::Again,
+    };
     ArrayTurn { turn, state }
+}
+
+// The same, from where a walk ended.
+fn again_walk(w: Walk, state: ArrayState) -> ArrayTurn
+    ensures { λ r. ⌜ r ≡ record { turn = record { cur = w .cur; n = w .n; next = Next.Again }; state = state } ⌝ }
+{
+    again(w.cur, w.n, state)
+}
+
+// The end of the array.
+fn over(cur: Cursor, n: Counts, state: ArrayState) -> ArrayTurn
+    ensures { λ r. ⌜ r ≡ record { turn = record { cur = cur; n = n; next = Next.Over }; state = state } ⌝ }
+{
+    let turn = Turn {
+        cur,
+        n,
+        next: Next::Over,
+    };
+    ArrayTurn { turn, state }
+}
+
+// First what a bracket opens, behind which a comma is wanted.
+fn opening(cur: Cursor, n: Counts, next: Next) -> ArrayTurn
+    ensures { λ r. ⌜ r ≡ record { turn = record { cur = cur; n = n; next = next }; state = ArrayState.NeedsComma } ⌝ }
+{
+    let turn = Turn { cur, n, next };
+    ArrayTurn {
+        turn,
+        state: ArrayState::NeedsComma,
+    }
 }
 
 // One turn in the array that `head` opened.
@@ -74,7 +108,7 @@ pub fn array_turn(
             events,
             errors,
         );
-        return wanting(over(Walk { cur: c, n }), state);
+        return over(c, n, state);
     };
     let k = t.kind;
     let x = in_array(k);
@@ -85,24 +119,24 @@ pub fn array_turn(
             let from = past;
             let sofar = m;
             let w = on_comment(list, remark, from, sofar, events, errors);
-            wanting(again(w), state)
+            again_walk(w, state)
         }
         InArray::Whitespace => {
             let n = emit(events, m, Event::Whitespace, t.start, t.end);
-            wanting(again(Walk { cur: past, n }), state)
+            again(past, n, state)
         }
         InArray::Newline => {
             let n = emit(events, m, Event::Newline, t.start, t.end);
-            wanting(again(Walk { cur: past, n }), state)
+            again(past, n, state)
         }
         InArray::Eof => {
             let i = report_at(errors, m, UNCLOSED_ARRAY, CLOSE_SQUARE, head, t);
             let n = emit(events, i, Event::ArrayClose, t.start, t.start);
-            wanting(over(Walk { cur: past, n }), state)
+            over(past, n, state)
         }
         InArray::Comma => {
             let n = comma(m, state, head, t, events, errors);
-            wanting(again(Walk { cur: past, n }), ArrayState::NeedsValue)
+            again(past, n, ArrayState::NeedsValue)
         }
         InArray::Equals => {
             let i = report_at(
@@ -114,35 +148,29 @@ pub fn array_turn(
                 t,
             );
             let n = emit(events, i, Event::Error, t.start, t.end);
-            wanting(again(Walk { cur: past, n }), state)
+            again(past, n, state)
         }
         InArray::OpenCurly => {
             let n = missing_comma(m, state, head, t, events, errors);
-            wanting(
-                opening(Walk { cur: past, n }, Next::OpenTable(t)),
-                ArrayState::NeedsComma,
-            )
+            opening(past, n, Next::OpenTable(t))
         }
         InArray::CloseCurly => {
             let h = missing_comma(m, state, head, t, events, errors);
             let n = without_open(h, Bracket::Curly, t, events, errors);
-            wanting(again(Walk { cur: past, n }), ArrayState::NeedsComma)
+            again(past, n, ArrayState::NeedsComma)
         }
         InArray::OpenSquare => {
             let n = missing_comma(m, state, head, t, events, errors);
-            wanting(
-                opening(Walk { cur: past, n }, Next::OpenArray(t)),
-                ArrayState::NeedsComma,
-            )
+            opening(past, n, Next::OpenArray(t))
         }
         InArray::CloseSquare => {
             let n = emit(events, m, Event::ArrayClose, t.start, t.end);
-            wanting(over(Walk { cur: past, n }), state)
+            over(past, n, state)
         }
         InArray::Scalar => {
             let h = missing_comma(m, state, head, t, events, errors);
             let w = on_scalar(s, t, past, h, events, errors);
-            wanting(again(w), ArrayState::NeedsComma)
+            again_walk(w, ArrayState::NeedsComma)
         }
     }
 }

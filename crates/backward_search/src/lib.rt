@@ -16,22 +16,10 @@ pub fn in_search(kind: Kind) -> InSearch
     ensures { λ r. ⌜ r ≡ inSearch kind ⌝ }
 {
     match kind {
-        Kind::Dot => InSearch::Other,
-        Kind::Equals => InSearch::Other,
         Kind::Comma => InSearch::Comma,
-        Kind::LeftSquareBracket => InSearch::Other,
-        Kind::RightSquareBracket => InSearch::Other,
-        Kind::LeftCurlyBracket => InSearch::Other,
-        Kind::RightCurlyBracket => InSearch::Other,
         Kind::Whitespace => InSearch::Whitespace,
-        Kind::Comment => InSearch::Trivia,
-        Kind::Newline => InSearch::Trivia,
-        Kind::LiteralString => InSearch::Other,
-        Kind::BasicString => InSearch::Other,
-        Kind::MlLiteralString => InSearch::Other,
-        Kind::MlBasicString => InSearch::Other,
-        Kind::Atom => InSearch::Other,
-        Kind::Eof => InSearch::Trivia,
+        Kind::Comment | Kind::Newline | Kind::Eof => InSearch::Trivia,
+        _ => InSearch::Other,
     }
 }
 
@@ -41,22 +29,16 @@ fn is_sought(what: Sought, kind: Kind) -> bool
     let class = in_search(kind);
     match what {
         Sought::Significant => match class {
-            InSearch::Whitespace => false,
-            InSearch::Trivia => false,
-            InSearch::Comma => true,
-            InSearch::Other => true,
+            InSearch::Whitespace | InSearch::Trivia => false,
+            _ => true,
         },
         Sought::Comma => match class {
-            InSearch::Whitespace => false,
-            InSearch::Trivia => false,
             InSearch::Comma => true,
-            InSearch::Other => false,
+            _ => false,
         },
         Sought::Solid => match class {
             InSearch::Whitespace => false,
-            InSearch::Trivia => true,
-            InSearch::Comma => true,
-            InSearch::Other => true,
+            _ => true,
         },
     }
 }

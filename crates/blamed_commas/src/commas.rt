@@ -42,9 +42,7 @@ fn is_comma(kind: Kind) -> bool
     let class = in_search(kind);
     match class {
         InSearch::Comma => true,
-        InSearch::Whitespace => false,
-        InSearch::Trivia => false,
-        InSearch::Other => false,
+        _ => false,
     }
 }
 

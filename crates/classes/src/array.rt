@@ -8,7 +8,6 @@ pub fn in_array(kind: Kind) -> InArray
     ensures { λ r. ⌜ r ≡ inArray kind ⌝ }
 {
     match kind {
-        Kind::Dot => InArray::Scalar,
         Kind::Equals => InArray::Equals,
         Kind::Comma => InArray::Comma,
         Kind::LeftSquareBracket => InArray::OpenSquare,
@@ -18,11 +17,7 @@ pub fn in_array(kind: Kind) -> InArray
         Kind::Whitespace => InArray::Whitespace,
         Kind::Comment => InArray::Comment,
         Kind::Newline => InArray::Newline,
-        Kind::LiteralString => InArray::Scalar,
-        Kind::BasicString => InArray::Scalar,
-        Kind::MlLiteralString => InArray::Scalar,
-        Kind::MlBasicString => InArray::Scalar,
-        Kind::Atom => InArray::Scalar,
         Kind::Eof => InArray::Eof,
+        _ => InArray::Scalar,
     }
 }

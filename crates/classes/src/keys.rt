@@ -10,20 +10,12 @@ pub fn in_key(kind: Kind) -> InKey
 {
     match kind {
         Kind::Dot => InKey::Dot,
-        Kind::Equals => InKey::Other,
-        Kind::Comma => InKey::Other,
-        Kind::LeftSquareBracket => InKey::Other,
-        Kind::RightSquareBracket => InKey::Other,
-        Kind::LeftCurlyBracket => InKey::Other,
-        Kind::RightCurlyBracket => InKey::Other,
         Kind::Whitespace => InKey::Whitespace,
-        Kind::Comment => InKey::Other,
-        Kind::Newline => InKey::Other,
         Kind::LiteralString => InKey::Part(Encoding::LiteralString),
         Kind::BasicString => InKey::Part(Encoding::BasicString),
         Kind::MlLiteralString => InKey::Part(Encoding::MlLiteralString),
         Kind::MlBasicString => InKey::Part(Encoding::MlBasicString),
         Kind::Atom => InKey::Part(Encoding::None),
-        Kind::Eof => InKey::Other,
+        _ => InKey::Other,
     }
 }

@@ -10,22 +10,12 @@ pub fn starting_of(kind: Kind) -> Starting
     ensures { λ r. ⌜ r ≡ startingOf kind ⌝ }
 {
     match kind {
-        Kind::Dot => Starting::Unquoted,
-        Kind::Equals => Starting::Never,
-        Kind::Comma => Starting::Never,
-        Kind::LeftSquareBracket => Starting::Never,
-        Kind::RightSquareBracket => Starting::Never,
-        Kind::LeftCurlyBracket => Starting::Never,
-        Kind::RightCurlyBracket => Starting::Never,
-        Kind::Whitespace => Starting::Never,
-        Kind::Comment => Starting::Never,
-        Kind::Newline => Starting::Never,
+        Kind::Dot | Kind::Atom => Starting::Unquoted,
         Kind::LiteralString => Starting::Quoted(Encoding::LiteralString),
         Kind::BasicString => Starting::Quoted(Encoding::BasicString),
         Kind::MlLiteralString => Starting::Quoted(Encoding::MlLiteralString),
         Kind::MlBasicString => Starting::Quoted(Encoding::MlBasicString),
-        Kind::Atom => Starting::Unquoted,
-        Kind::Eof => Starting::Never,
+        _ => Starting::Never,
     }
 }
 
@@ -34,20 +24,8 @@ pub fn in_scalar(kind: Kind) -> InScalar
 {
     match kind {
         Kind::Dot => InScalar::Dot,
-        Kind::Equals => InScalar::Other,
-        Kind::Comma => InScalar::Other,
-        Kind::LeftSquareBracket => InScalar::Other,
-        Kind::RightSquareBracket => InScalar::Other,
-        Kind::LeftCurlyBracket => InScalar::Other,
-        Kind::RightCurlyBracket => InScalar::Other,
         Kind::Whitespace => InScalar::Whitespace,
-        Kind::Comment => InScalar::Other,
-        Kind::Newline => InScalar::Other,
-        Kind::LiteralString => InScalar::Other,
-        Kind::BasicString => InScalar::Other,
-        Kind::MlLiteralString => InScalar::Other,
-        Kind::MlBasicString => InScalar::Other,
         Kind::Atom => InScalar::Atom,
-        Kind::Eof => InScalar::Other,
+        _ => InScalar::Other,
     }
 }

@@ -8,21 +8,13 @@ pub fn in_value(kind: Kind) -> InValue
     ensures { λ r. ⌜ r ≡ inValue kind ⌝ }
 {
     match kind {
-        Kind::Dot => InValue::Scalar,
         Kind::Equals => InValue::Equals,
-        Kind::Comma => InValue::Nothing,
         Kind::LeftSquareBracket => InValue::OpenSquare,
         Kind::RightSquareBracket => InValue::CloseSquare,
         Kind::LeftCurlyBracket => InValue::OpenCurly,
         Kind::RightCurlyBracket => InValue::CloseCurly,
-        Kind::Whitespace => InValue::Nothing,
-        Kind::Comment => InValue::Nothing,
-        Kind::Newline => InValue::Nothing,
-        Kind::LiteralString => InValue::Scalar,
-        Kind::BasicString => InValue::Scalar,
-        Kind::MlLiteralString => InValue::Scalar,
-        Kind::MlBasicString => InValue::Scalar,
-        Kind::Atom => InValue::Scalar,
-        Kind::Eof => InValue::Nothing,
+        Kind::Comma | Kind::Whitespace | Kind::Comment | Kind::Newline | Kind::Eof =>
+            InValue::Nothing,
+        _ => InValue::Scalar,
     }
 }

@@ -1,9 +1,11 @@
 -- Laws of the document loop: a turn is a walk, after which the loop goes on unless it is over. Assumes nothing.
 use mathlib.Core.Path.{_≡_, refl, ap, sym, subst, _∙_}
 use mathlib.Core.Bool.{true, false}
-use mathlib.Core.List.{List}
+use mathlib.Core.List.{List, [], _∷_}
 use Prim.Native.Nat.{ℕ, _-_}
 use native.Mathlib.Omega.{arith}
+use denote.Enum.Declared.{tagOf}
+use types.Run.{OneOf, miss}
 use Rattle.token.specs.KindLaws.{every-kind}
 use Rattle.token.specs.Tokens.{Tok, allTokens, tokensAt, Took}
 use Rattle.token.specs.declared.kind.Kind.{Kind}
@@ -11,6 +13,7 @@ use Rattle.token.specs.declared.kind.Kind.the-variants.{Dot, Equals}
 use Rattle.token.specs.declared.cursor.Token.{Token}
 use Rattle.token.specs.declared.cursor.Cursor.{Cursor}
 use Rattle.rules.specs.declared.document.InDocument.{InDocument}
+use Rattle.rules.proofs.document.InDocument as in-document
 use Rattle.rules.specs.Out.{Out, _then_}
 use Rattle.rules.specs.Turns.{turns}
 use Rattle.rules.specs.Document.{inDocument, documentStep, documentTurn}
@@ -18,6 +21,7 @@ use Rattle.output.specs.Pour.{Bufs, bufs, pour}
 use Rattle.output.specs.Walks.{End, run}
 use Rattle.output.specs.WalkLaws.{rule-at, then-on}
 use Rattle.output.specs.TurnLaws.{Turns, onward, turn-same, fewer-left}
+use Rattle.keyless_turns.specs.Keyless.{keyless}
 use Rattle.nest.specs.Nested.{outOf, Nested}
 use Rattle.nest.specs.NestedLaws.{out-on, nested-stop}
 use Rattle.documents.specs.declared.document.DocumentTurn.{DocumentTurn}
@@ -27,6 +31,26 @@ use Rattle.documents.specs.Documents.{Stepped}
 pub document-at : (s : List ℕ) (c d : Cursor) (t : Token) → Took s c t d → (x y : InDocument) → x ≡ inDocument (t .kind) → x ≡ y → (levels : ℕ) (loop : Unit {0} → List Tok → Out)
     → documentTurn levels loop tt (tokensAt s c) ≡ documentStep y levels (loop tt) (t .start) (t .end) (tokensAt s d)
 document-at s c d t k x y p q levels loop = rule-at s c d t (documentTurn levels loop tt) inDocument (λ z. documentStep z levels (loop tt) (t .start) (t .end) (tokensAt s d)) x y k refl p q
+
+-- what the arm tells at which no key starts, and the document does not end
+abbrev Rest : List ℕ
+Rest = 0 ∷ 1 ∷ 5 ∷ 6 ∷ 7 ∷ 8 ∷ []
+
+keyless-step : (x : InDocument) (levels : ℕ) (loop : List Tok → Out) (a b : ℕ) (ts : List Tok) → OneOf Rest (tagOf in-document.the-type x) → documentStep x levels loop a b ts ≡ (keyless x a b ts then loop)
+keyless-step InDocument.OpenSquare levels loop a b ts w = refl
+keyless-step InDocument.CloseSquare levels loop a b ts w = refl
+keyless-step (InDocument.Key e) levels loop a b ts w = absurd (miss Rest 2 tt w)
+keyless-step InDocument.Equals levels loop a b ts w = absurd (miss Rest 3 tt w)
+keyless-step InDocument.Dot levels loop a b ts w = absurd (miss Rest 4 tt w)
+keyless-step InDocument.Stray levels loop a b ts w = refl
+keyless-step InDocument.Whitespace levels loop a b ts w = refl
+keyless-step InDocument.Newline levels loop a b ts w = refl
+keyless-step InDocument.Comment levels loop a b ts w = refl
+keyless-step InDocument.Eof levels loop a b ts w = absurd (miss Rest 9 tt w)
+
+pub document-keyless : (s : List ℕ) (c d : Cursor) (t : Token) → Took s c t d → (x : InDocument) → x ≡ inDocument (t .kind) → OneOf Rest (tagOf in-document.the-type x) → (levels : ℕ) (loop : Unit {0} → List Tok → Out)
+    → documentTurn levels loop tt (tokensAt s c) ≡ (keyless x (t .start) (t .end) (tokensAt s d) then loop tt)
+document-keyless s c d t k x p w levels loop = document-at s c d t k x x p refl levels loop ∙ keyless-step x levels (loop tt) (t .start) (t .end) (tokensAt s d) w
 
 -- an answer that is made by a function
 pub stepped-as : {s : List ℕ} {rule : (Unit {0} → List Tok → Out) → Out} {c : Cursor} {o : Bufs} {a b : List ℕ} {d d' : DocumentTurn} → d ≡ d' → Stepped s rule c o a b d' → Stepped s rule c o a b d

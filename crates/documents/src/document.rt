@@ -2,21 +2,16 @@
 use classes::document::in_document;
 use expression_keys::on_expression_dot;
 use expression_keys::on_expression_key;
-use expression_strays::strays::on_missing_expression_key;
-use expression_strays::strays::on_missing_std_table;
 use expressions::expression::key_and_value;
+use keyless_turns::keyless_turn;
 use nest::nest::NestWalk;
 use nest::nest::unstopped;
 use output::emitting::Counts;
 use output::emitting::Walk;
-use output::emitting::emit;
 use output::emitting::empty_key;
 use output::message::KEY_WITH_NO_VALUE;
 use rules::document::InDocument;
-use rules::event::Event;
 use rules::options::Settings;
-use skip_lines::skipping::on_comment;
-use tables::table::on_table;
 use token::cursor::Cursor;
 use token::cursor::Step;
 ghost use mathlib.Core.Path.{_≡_};
@@ -72,14 +67,6 @@ fn document_turn(
     let mut n = m;
     let mut message = KEY_WITH_NO_VALUE;
     match x {
-        InDocument::OpenSquare => {
-            let w = on_table(s, t, past, m, events, errors);
-            return going_on(w);
-        }
-        InDocument::CloseSquare => {
-            let w = on_missing_std_table(s, t, past, m, events, errors);
-            return going_on(w);
-        }
         InDocument::Key(e) => {
             let start = on_expression_key(t, e, past, m, events);
             from = start.cur;
@@ -97,24 +84,12 @@ fn document_turn(
             n = start.n;
             message = start.message;
         }
-        InDocument::Stray => {
-            let w = on_missing_expression_key(s, t, past, m, events, errors);
-            return going_on(w);
-        }
-        InDocument::Whitespace => {
-            let i = emit(events, m, Event::Whitespace, t.start, t.end);
-            return going_on(Walk { cur: past, n: i });
-        }
-        InDocument::Newline => {
-            let i = emit(events, m, Event::Newline, t.start, t.end);
-            return going_on(Walk { cur: past, n: i });
-        }
-        InDocument::Comment => {
-            let w = on_comment(s, t, past, m, events, errors);
-            return going_on(w);
-        }
         InDocument::Eof => {
             return ended(Walk { cur: past, n: m });
+        }
+        _ => {
+            let w = keyless_turn(s, x, t, past, m, events, errors);
+            return going_on(w);
         }
     }
     let walk = key_and_value(s, from, n, message, settings, events, errors);

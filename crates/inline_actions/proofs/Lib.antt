@@ -1,1 +1,2 @@
 pub mod ActionLaws
+pub mod EncodingLaws

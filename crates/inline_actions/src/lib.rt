@@ -58,9 +58,7 @@ pub fn encoding_at(kind: Kind) -> Encoding
     let x = in_key(kind);
     match x {
         InKey::Part(e) => e,
-        InKey::Whitespace => Encoding::None,
-        InKey::Dot => Encoding::None,
-        InKey::Other => Encoding::None,
+        _ => Encoding::None,
     }
 }
 

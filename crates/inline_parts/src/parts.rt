@@ -68,9 +68,7 @@ pub fn trailing_comma(
     }
     let state = p.state;
     match state {
-        State::NeedsKey => report_trailing_comma(errors, n, head, opened, at, t.start),
-        State::NeedsEquals => report_trailing_comma(errors, n, head, opened, at, t.start),
-        State::NeedsValue => report_trailing_comma(errors, n, head, opened, at, t.start),
         State::NeedsComma => n,
+        _ => report_trailing_comma(errors, n, head, opened, at, t.start),
     }
 }

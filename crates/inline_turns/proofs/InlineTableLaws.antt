@@ -4,6 +4,8 @@ use mathlib.Core.List.{List, [], _∷_, _++_}
 use Prim.Native.Nat.{ℕ, suc, _-_, _≤_}
 use native.Mathlib.Omega.{arith}
 use lib.ListN.{length}
+use denote.Enum.Declared.{tagOf}
+use types.Run.{OneOf, miss}
 use Rattle.token.specs.Records.{count}
 use Rattle.token.specs.KindLaws.{every-kind}
 use Rattle.token.specs.Tokens.{Tok, allTokens, tokensAt, Took}
@@ -16,6 +18,7 @@ use Rattle.rules.specs.declared.inline_table.Action.{Action}
 use Rattle.rules.specs.declared.inline_table.Action.the-variants as A
 use Rattle.rules.specs.declared.inline_table.State.{State}
 use Rattle.rules.specs.declared.inline_table.Progress.{Progress}
+use Rattle.rules.proofs.inline_table.Action as action
 use Rattle.rules.specs.Out.{Place, Item, Out, done, _▹_, _▸_}
 use Rattle.rules.specs.Scalar.{startingOf}
 use Rattle.rules.specs.Array.{Nest}
@@ -25,6 +28,7 @@ use Rattle.output.specs.Walks.{run}
 use Rattle.output.specs.WalkLaws.{at-token}
 use Rattle.scalars.specs.ScalarWalks.{Starts}
 use Rattle.array_parts.specs.Turning.{Turned}
+use Rattle.inline_turns.specs.Irregular.{irregular, Irregular}
 use Rattle.inline_turns.specs.declared.table_turn.TableTurn.{TableTurn}
 use Rattle.array_parts.specs.declared.turn.Turn.{Turn}
 
@@ -70,6 +74,36 @@ tells State.NeedsComma = every-kind (λ (k : Kind). Tells (actionOf State.NeedsC
 
 pub action-tells : (st : State) (k : Kind) (x y : Action) → x ≡ actionOf st k → x ≡ y → Tells y k
 action-tells st k x y p q = subst (λ (z : Action). Tells z k) (sym p ∙ q) (tells st k)
+
+-- the arm behind all other actions that report something
+abbrev behind : List ℕ
+behind = 0 ∷ 1 ∷ 2 ∷ 4 ∷ 7 ∷ 14 ∷ 15 ∷ 16 ∷ 17 ∷ 20 ∷ 21 ∷ 23 ∷ []
+
+pub last-irregular : (x : Action) → Irregular x → OneOf behind (tagOf action.the-type x) → x ≡ A.DotKeyWithoutComma
+last-irregular A.Whitespace i w = absurd (miss irregular 0 tt i)
+last-irregular A.Comment i w = absurd (miss irregular 1 tt i)
+last-irregular A.Newline i w = absurd (miss irregular 2 tt i)
+last-irregular A.Eof i w = absurd (miss behind 3 tt w)
+last-irregular A.ValueSep i w = absurd (miss irregular 4 tt i)
+last-irregular A.ExtraComma i w = absurd (miss behind 5 tt w)
+last-irregular A.EmptyKey i w = absurd (miss behind 6 tt w)
+last-irregular A.KeyValSep i w = absurd (miss irregular 7 tt i)
+last-irregular A.ExtraAssignment i w = absurd (miss behind 8 tt w)
+last-irregular A.KeylessArray i w = absurd (miss behind 9 tt w)
+last-irregular A.KeylessTable i w = absurd (miss behind 10 tt w)
+last-irregular A.UnassignedArray i w = absurd (miss behind 11 tt w)
+last-irregular A.UnassignedTable i w = absurd (miss behind 12 tt w)
+last-irregular A.UnassignedScalar i w = absurd (miss behind 13 tt w)
+last-irregular A.Array i w = absurd (miss irregular 14 tt i)
+last-irregular A.Table i w = absurd (miss irregular 15 tt i)
+last-irregular A.Scalar i w = absurd (miss irregular 16 tt i)
+last-irregular A.Close i w = absurd (miss irregular 17 tt i)
+last-irregular A.InvalidElement i w = absurd (miss behind 18 tt w)
+last-irregular A.ArrayWithoutOpen i w = absurd (miss behind 19 tt w)
+last-irregular A.Key i w = absurd (miss irregular 20 tt i)
+last-irregular A.DotKey i w = absurd (miss irregular 21 tt i)
+last-irregular A.KeyWithoutComma i w = absurd (miss behind 22 tt w)
+last-irregular A.DotKeyWithoutComma i w = refl
 
 -- the records of the `{` and of the `}`, by the tokens that are left
 pub opened-left : (s : List ℕ) (base opened : ℕ) → opened ≤ count s → opened ≡ length (allTokens s base) - (count s - opened)

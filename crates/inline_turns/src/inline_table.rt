@@ -1,4 +1,5 @@
 // Inline tables: one turn.
+use crate::irregular::irregular_turn;
 use crate::table_turn::TableTurn;
 use crate::table_turn::ended;
 use crate::table_turn::opens;
@@ -6,35 +7,20 @@ use crate::table_turn::read;
 use crate::table_turn::read_walk;
 use crate::table_turn::unread;
 use crate::table_turn::unread_walk;
-use array_parts::brackets::without_open;
 use array_parts::turn::Next;
 use array_parts::turn::unclosed;
 use inline_actions::action_at;
-use inline_parts::parts::missing;
-use inline_parts::parts::refuse;
 use inline_steps::close;
 use inline_steps::comment;
-use inline_steps::dot_without_comma;
-use inline_steps::eof;
-use inline_steps::equals_without_key;
-use inline_steps::key_without_comma;
-use inline_steps::keyless_array;
-use inline_steps::keyless_table;
 use inline_steps::newline;
-use inline_steps::unassigned_scalar;
 use output::emitting::Counts;
 use output::emitting::emit;
 use output::expected::CLOSE_CURLY;
-use output::message::EXTRA_ASSIGNMENT;
-use output::message::EXTRA_COMMA_IN_INLINE_TABLE;
-use output::message::INVALID_INLINE_TABLE_ELEMENT;
-use output::message::MISSING_ASSIGNMENT;
 use output::message::UNCLOSED_INLINE_TABLE;
 use rules::event::Event;
 use rules::inline_table::Action;
 use rules::inline_table::Progress;
 use rules::inline_table::State;
-use rules::skipping::Bracket;
 use scalars::scalar::on_scalar;
 use table_keys::table_dot;
 use table_keys::table_key;
@@ -52,7 +38,7 @@ ghost use Rattle.array_parts.specs.Turning.{Turned};
 ghost use Rattle.inline_actions.specs.Actions.{actionTable};
 
 // One turn in the inline table that `head` opened, of which `opened` is the first record behind it. The table of actions is lent, since the turns of a
-// loop share one.
+// loop share one. The arms here are what a well-formed table has; what is wrong in one has a function of its own.
 pub fn inline_table_turn(
     s: &[u8],
     head: Token,
@@ -97,54 +83,17 @@ pub fn inline_table_turn(
             let n = newline(head, t, m, events, errors);
             unread(past, n, p)
         }
-        Action::Eof => {
-            let n = eof(head, t, m, events, errors);
-            ended(past, n, p)
-        }
         Action::ValueSep => {
             let n = emit(events, m, Event::ValueSep, t.start, t.end);
-            let empty = p.empty;
             let q = Progress {
                 state: State::NeedsKey,
-                empty,
+                empty: p.empty,
             };
             unread(past, n, q)
-        }
-        Action::ExtraComma => {
-            let n = refuse(m, EXTRA_COMMA_IN_INLINE_TABLE, p, head, t, events, errors);
-            unread(past, n, p)
-        }
-        Action::EmptyKey => {
-            let n = equals_without_key(t, m, events);
-            read(past, n, State::NeedsValue)
         }
         Action::KeyValSep => {
             let n = emit(events, m, Event::KeyValSep, t.start, t.end);
             read(past, n, State::NeedsValue)
-        }
-        Action::ExtraAssignment => {
-            let n = refuse(m, EXTRA_ASSIGNMENT, p, head, t, events, errors);
-            unread(past, n, p)
-        }
-        Action::KeylessArray => {
-            let w = keyless_array(s, head, t, past, m, p, events, errors);
-            unread_walk(w, p)
-        }
-        Action::KeylessTable => {
-            let w = keyless_table(s, head, t, past, m, p, events, errors);
-            unread_walk(w, p)
-        }
-        Action::UnassignedArray => {
-            let n = missing(m, MISSING_ASSIGNMENT, p, head, t, errors);
-            opens(past, n, Next::OpenArray(t), State::NeedsComma)
-        }
-        Action::UnassignedTable => {
-            let n = missing(m, MISSING_ASSIGNMENT, p, head, t, errors);
-            opens(past, n, Next::OpenTable(t), State::NeedsComma)
-        }
-        Action::UnassignedScalar => {
-            let w = unassigned_scalar(s, head, t, past, m, p, events, errors);
-            read_walk(w, State::NeedsComma)
         }
         Action::Array => opens(past, m, Next::OpenArray(t), State::NeedsComma),
         Action::Table => opens(past, m, Next::OpenTable(t), State::NeedsComma),
@@ -156,14 +105,6 @@ pub fn inline_table_turn(
             let n = close(c, opened, head, t, m, p, events, errors);
             ended(past, n, p)
         }
-        Action::InvalidElement => {
-            let n = refuse(m, INVALID_INLINE_TABLE_ELEMENT, p, head, t, events, errors);
-            unread(past, n, p)
-        }
-        Action::ArrayWithoutOpen => {
-            let n = without_open(m, Bracket::Square, t, events, errors);
-            read(past, n, State::NeedsComma)
-        }
         Action::Key => {
             let w = table_key(s, t, past, m, events, errors);
             read_walk(w, State::NeedsEquals)
@@ -172,13 +113,6 @@ pub fn inline_table_turn(
             let w = table_dot(s, t, past, m, events, errors);
             read_walk(w, State::NeedsEquals)
         }
-        Action::KeyWithoutComma => {
-            let w = key_without_comma(s, head, t, past, m, p, events, errors);
-            read_walk(w, State::NeedsEquals)
-        }
-        Action::DotKeyWithoutComma => {
-            let w = dot_without_comma(s, head, t, past, m, p, events, errors);
-            read_walk(w, State::NeedsEquals)
-        }
+        _ => irregular_turn(s, head, t, past, m, p, action, events, errors),
     }
 }

@@ -1,17 +1,16 @@
 // The program of the limits: runs the document entry on lists at a limit and just beyond it, and prints for each what came: the
 // answer, and the last event that the buffer holds. oracle/src/bin/limits.rs says the same by the oracle.
-mod lists;
 mod showing;
 
-use crate::lists::ATOM;
-use crate::lists::EOF;
-use crate::lists::EQUALS;
-use crate::lists::LEFT;
-use crate::lists::RIGHT;
-use crate::lists::fill;
-use crate::lists::put;
 use crate::showing::AMPLE;
 use crate::showing::show;
+use limit_lists::lists::ATOM;
+use limit_lists::lists::EOF;
+use limit_lists::lists::EQUALS;
+use limit_lists::lists::LEFT;
+use limit_lists::lists::RIGHT;
+use limit_lists::lists::fill;
+use limit_lists::lists::put;
 ghost use Prim.Native.Nat.{_*_, _≤_};
 ghost use lib.ListN.{length};
 

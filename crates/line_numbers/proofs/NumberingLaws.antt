@@ -2,6 +2,7 @@
 use mathlib.Core.Path.{_≡_, refl, ap, sym, subst, _∙_}
 use mathlib.Core.Bool.{Bool, cond}
 use mathlib.Core.List.{List}
+use mathlib.Core.Logic.{_⊎_, inl, inr}
 use Prim.Native.Nat.{ℕ, zero, suc, _+_, _-_, _*_, _<_, _≤_}
 use native.Mathlib.Omega.{arith}
 use lib.ListN.{length, getD, set, length-set}
@@ -22,7 +23,7 @@ use Rattle.blamed_commas.specs.declared.commas.Comma.{Comma}
 use Rattle.line_points.specs.Points.{Begins, Counted, Numbered, Reached}
 use Rattle.blamed_commas.specs.Commas.{commaSince, Known}
 use Rattle.line_numbers.specs.Placing.{Places}
-use Rattle.line_numbers.specs.Numbering.{placed, placedAt, spanned, numberedAt, numberedFirst}
+use Rattle.line_numbers.specs.Numbering.{placed, placedAt, spanned, numberedAt, numberedFirst, stored}
 use Rattle.line_points.specs.PointLaws.{counted-begun}
 use Rattle.blamed_commas.specs.CommaLaws.{none-known}
 
@@ -99,3 +100,8 @@ module _ {s : List ℕ} {base : ℕ} {mode : Mode} {n : ℕ} {errors₀ : List �
 
   pub numbering-end : n ≤ i → errors ≡ numberedFirst mode (allTokens s base) n errors₀
   numbering-end h = let e : i ≡ n = omega (arith, h, x .few) in x .done ∙ ap (λ (k : ℕ). numberedFirst mode (allTokens s base) k errors₀) e
+
+-- as many errors as are in the buffer; A and B are what the branches tell
+pub as-stored : {A B : Type 0} (room n k : ℕ) → (A → room < n) → (B → n ≤ room) → (A × (k ≡ room)) ⊎ (B × (k ≡ n)) → (k ≡ stored n room) × (k ≤ room)
+as-stored room n k less more (inl u) = (rw (lt-ltb room n (less (u .0))) (u .1), omega (arith, u .1))
+as-stored room n k less more (inr u) = (rw (le-ltb room n (more (u .0))) (u .1), omega (arith, u .1, more (u .0)))

@@ -125,9 +125,9 @@ pub fn number_errors(s: &[u8], base: u32, mode: Mode, n: usize, errors: &mut [u3
     ensures { λ _. ⌜ now (errors .exit) ≡ numbered mode (allTokens (now (s .entry)) base) n (now (errors .entry)) ⌝ }
 {
     let room = errors.len() / ERROR_WORDS;
+    let mut stored = n;
     if room < n {
-        number_first(s, base, mode, room, errors);
-    } else {
-        number_first(s, base, mode, n, errors);
+        stored = room;
     }
+    number_first(s, base, mode, stored, errors);
 }

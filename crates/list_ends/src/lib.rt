@@ -33,19 +33,10 @@ fn errors_to_end(s: &[u8], c: Cursor, m: Counts, events: &mut [u32], errors: &mu
         let k = t.kind;
         let x = in_line(k);
         match x {
-            InLine::Other => {
-                n = emit(events, n, Event::Error, t.start, t.end);
-            }
-            InLine::Comment => {
-                n = emit(events, n, Event::Error, t.start, t.end);
-            }
-            InLine::Whitespace => {
-                n = emit(events, n, Event::Error, t.start, t.end);
-            }
-            InLine::Newline => {
-                n = emit(events, n, Event::Error, t.start, t.end);
-            }
             InLine::Eof => {}
+            _ => {
+                n = emit(events, n, Event::Error, t.start, t.end);
+            }
         }
     }
 }
@@ -71,10 +62,7 @@ pub fn eof(s: &[u8], c: Cursor, m: Counts, events: &mut [u32], errors: &mut [u32
     let k = t.kind;
     let x = in_line(k);
     match x {
-        InLine::Other => content(s, t, past, m, events, errors),
-        InLine::Comment => content(s, t, past, m, events, errors),
-        InLine::Whitespace => content(s, t, past, m, events, errors),
-        InLine::Newline => content(s, t, past, m, events, errors),
         InLine::Eof => Walk { cur: past, n: m },
+        _ => content(s, t, past, m, events, errors),
     }
 }

@@ -28,30 +28,31 @@ pub fn process_token(text: &[u8], at: usize) -> Found
     ensures { λ r. ⌜ IsToken (now (text .entry)) at r ⌝ }
 {
     let start = start_of(text[at]);
+    let end = at + 1;
     match start {
-        Start::Dot => piece(Kind::Dot, at + 1),
-        Start::Equals => piece(Kind::Equals, at + 1),
-        Start::Comma => piece(Kind::Comma, at + 1),
-        Start::LeftSquareBracket => piece(Kind::LeftSquareBracket, at + 1),
-        Start::RightSquareBracket => piece(Kind::RightSquareBracket, at + 1),
-        Start::LeftCurlyBracket => piece(Kind::LeftCurlyBracket, at + 1),
-        Start::RightCurlyBracket => piece(Kind::RightCurlyBracket, at + 1),
-        Start::Wschar => piece(Kind::Whitespace, lex_whitespace(text, at + 1)),
-        Start::CommentStartSymbol => piece(Kind::Comment, lex_comment(text, at + 1)),
-        Start::CarriageReturn => piece(Kind::Newline, lex_crlf(text, at + 1)),
-        Start::LineFeed => piece(Kind::Newline, at + 1),
+        Start::Dot => piece(Kind::Dot, end),
+        Start::Equals => piece(Kind::Equals, end),
+        Start::Comma => piece(Kind::Comma, end),
+        Start::LeftSquareBracket => piece(Kind::LeftSquareBracket, end),
+        Start::RightSquareBracket => piece(Kind::RightSquareBracket, end),
+        Start::LeftCurlyBracket => piece(Kind::LeftCurlyBracket, end),
+        Start::RightCurlyBracket => piece(Kind::RightCurlyBracket, end),
+        Start::Wschar => piece(Kind::Whitespace, lex_whitespace(text, end)),
+        Start::CommentStartSymbol => piece(Kind::Comment, lex_comment(text, end)),
+        Start::CarriageReturn => piece(Kind::Newline, lex_crlf(text, end)),
+        Start::LineFeed => piece(Kind::Newline, end),
         Start::Apostrophe => {
             if starts_three(text, at, b'\'') {
                 return piece(Kind::MlLiteralString, lex_ml_literal_string(text, at + 3));
             }
-            piece(Kind::LiteralString, lex_literal_string(text, at + 1))
+            piece(Kind::LiteralString, lex_literal_string(text, end))
         }
         Start::QuotationMark => {
             if starts_three(text, at, b'"') {
                 return piece(Kind::MlBasicString, lex_ml_basic_string(text, at + 3));
             }
-            piece(Kind::BasicString, lex_basic_string(text, at + 1))
+            piece(Kind::BasicString, lex_basic_string(text, end))
         }
-        Start::Other => piece(Kind::Atom, lex_atom(text, at + 1)),
+        Start::Other => piece(Kind::Atom, lex_atom(text, end)),
     }
 }

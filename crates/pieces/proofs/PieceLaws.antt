@@ -6,8 +6,11 @@ use Prim.Native.Nat.{ℕ, zero, suc, _+_, _-_, _*_, _<_, _≤_}
 use native.Mathlib.Omega.{arith}
 use native.Mathlib.Numerals.{add-one}
 use lib.ListN.{length, getD}
+use denote.Enum.Declared.{tagOf}
+use types.Run.{OneOf, miss}
 use Rattle.rules.specs.Answer.{eventSize}
 use Rattle.pieces.specs.declared.sorts.Sort.{Sort}
+use Rattle.pieces.proofs.sorts.Sort as sorts
 use Rattle.pieces.specs.declared.pieces.Piece.{Piece}
 use Rattle.pieces.specs.declared.pieces.Skip.{Skip}
 use Rattle.pieces.specs.declared.pieces.Found.{Found}
@@ -44,6 +47,32 @@ module _ (n i : ℕ) (buffer : List ℕ) (h : i < n) (sort : Sort) (e : sortOf (
       ap (λ (es : List Seen). pieces es skipping) (events-on n i buffer h)
       ∙ ap (λ (x : Sort). piecesBy x skipping (eventAt i buffer) (skippedTo (eventsLeft n (i + 1) buffer) (getD buffer (i * eventSize + 3) 0)) (pieces (eventsLeft n (i + 1) buffer))) e
 
+-- what the arm tells that ends skipped text, Sound or Wrong, and what it then gives
+abbrev Ended : Sort → Type 0
+Ended x = OneOf (2 ∷ 3 ∷ []) (tagOf sorts.the-type x)
+
+end-here : (x : Sort) (end next : ℕ) (on : ℕ → ℕ) → Ended x → endBy x end next on ≡ end
+end-here Sort.Skipped end next on w = absurd (miss (2 ∷ 3 ∷ []) 0 tt w)
+end-here Sort.Blank end next on w = absurd (miss (2 ∷ 3 ∷ []) 1 tt w)
+end-here Sort.Sound end next on w = refl
+end-here (Sort.Wrong message) end next on w = refl
+
+same-pieces : (x : Sort) (e : Seen) (end : ℕ) (on : Bool → List Piece) → Ended x → piecesBy x true e end on ≡ piecesBy x false e end on
+same-pieces Sort.Skipped e end on w = absurd (miss (2 ∷ 3 ∷ []) 0 tt w)
+same-pieces Sort.Blank e end on w = absurd (miss (2 ∷ 3 ∷ []) 1 tt w)
+same-pieces Sort.Sound e end on w = refl
+same-pieces (Sort.Wrong message) e end on w = refl
+
+-- what the arm tells that goes past an event that is Blank or Sound
+abbrev Past : Sort → Type 0
+Past x = OneOf (1 ∷ 2 ∷ []) (tagOf sorts.the-type x)
+
+no-piece : (x : Sort) (e : Seen) (end : ℕ) (on : Bool → List Piece) → Past x → piecesBy x false e end on ≡ on false
+no-piece Sort.Skipped e end on w = absurd (miss (1 ∷ 2 ∷ []) 0 tt w)
+no-piece Sort.Blank e end on w = refl
+no-piece Sort.Sound e end on w = refl
+no-piece (Sort.Wrong message) e end on w = absurd (miss (1 ∷ 2 ∷ []) 3 tt w)
+
 -- skipped text from event i₀ on has come to event i: what is left of it is what there was
 pub record Skipping (n : ℕ) (buffer : List ℕ) (i₀ end₀ i end : ℕ) : Type 0 where
   pub ends : skippedTo (eventsLeft n i₀ buffer) end₀ ≡ skippedTo (eventsLeft n i buffer) end
@@ -73,20 +102,11 @@ module _ {n : ℕ} {buffer : List ℕ} {i₀ end₀ i end : ℕ} (x : Skipping n
         within = omega (arith, h);
       }
 
-  pub skipped-sound : i < n → sortOf (eventAt i buffer) ≡ Sort.Sound → Skips n buffer i₀ end₀ (record { end = end; next = i })
-  skipped-sound h e =
+  pub skipped-over : (sort : Sort) → i < n → sortOf (eventAt i buffer) ≡ sort → Ended sort → Skips n buffer i₀ end₀ (record { end = end; next = i })
+  skipped-over sort h e w =
       record {
-        ends = sym (x .ends ∙ end-on n i buffer h Sort.Sound e end);
-        behind = x .same ∙ pieces-on n i buffer h Sort.Sound e true ∙ sym (pieces-on n i buffer h Sort.Sound e false);
-        on = x .on;
-        within = x .within;
-      }
-
-  pub skipped-wrong : (message : ℕ) → i < n → sortOf (eventAt i buffer) ≡ Sort.Wrong message → Skips n buffer i₀ end₀ (record { end = end; next = i })
-  skipped-wrong message h e =
-      record {
-        ends = sym (x .ends ∙ end-on n i buffer h (Sort.Wrong message) e end);
-        behind = x .same ∙ pieces-on n i buffer h (Sort.Wrong message) e true ∙ sym (pieces-on n i buffer h (Sort.Wrong message) e false);
+        ends = sym (x .ends ∙ end-on n i buffer h sort e end ∙ end-here sort end _ _ w);
+        behind = x .same ∙ pieces-on n i buffer h sort e true ∙ same-pieces sort _ _ _ w ∙ sym (pieces-on n i buffer h sort e false);
         on = x .on;
         within = x .within;
       }
@@ -112,11 +132,8 @@ pub seeking-begun : (n : ℕ) (buffer : List ℕ) (i : ℕ) → i ≤ n → Seek
 seeking-begun n buffer i h = record { same = refl; on = omega arith; within = h }
 
 module _ {n : ℕ} {buffer : List ℕ} {i₀ i : ℕ} (x : Seeking n buffer i₀ i) where
-  pub seeking-blank : i < n → sortOf (eventAt i buffer) ≡ Sort.Blank → Seeking n buffer i₀ (i + 1)
-  seeking-blank h e = record { same = x .same ∙ pieces-on n i buffer h Sort.Blank e false; on = omega (arith, x .on); within = omega (arith, h) }
-
-  pub seeking-sound : i < n → sortOf (eventAt i buffer) ≡ Sort.Sound → Seeking n buffer i₀ (i + 1)
-  seeking-sound h e = record { same = x .same ∙ pieces-on n i buffer h Sort.Sound e false; on = omega (arith, x .on); within = omega (arith, h) }
+  pub seeking-past : (sort : Sort) → i < n → sortOf (eventAt i buffer) ≡ sort → Past sort → Seeking n buffer i₀ (i + 1)
+  seeking-past sort h e w = record { same = x .same ∙ pieces-on n i buffer h sort e false ∙ no-piece sort _ _ _ w; on = omega (arith, x .on); within = omega (arith, h) }
 
   pub found-wrong : (message : ℕ) → i < n → sortOf (eventAt i buffer) ≡ Sort.Wrong message
       → Finds n buffer i₀ (Found.Piece (record { message = message; start = getD buffer (i * eventSize + 2) 0; end = getD buffer (i * eventSize + 3) 0 }) (i + 1))

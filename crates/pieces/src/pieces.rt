@@ -48,13 +48,7 @@ fn skip_on(events: &[u32], n: usize, i: usize, end: u32) -> Skip
             Sort::Blank => {
                 at += 1;
             }
-            Sort::Sound => {
-                return Skip {
-                    end: last,
-                    next: at,
-                };
-            }
-            Sort::Wrong(_) => {
+            _ => {
                 return Skip {
                     end: last,
                     next: at,
@@ -92,12 +86,6 @@ pub fn next_piece(events: &[u32], n: usize, i: usize) -> Found
                     skip.next,
                 );
             }
-            Sort::Blank => {
-                at += 1;
-            }
-            Sort::Sound => {
-                at += 1;
-            }
             Sort::Wrong(message) => {
                 let start = events[b + 2];
                 let end = events[b + 3];
@@ -109,6 +97,9 @@ pub fn next_piece(events: &[u32], n: usize, i: usize) -> Found
                     },
                     at + 1,
                 );
+            }
+            _ => {
+                at += 1;
             }
         }
     }

@@ -4,6 +4,8 @@ use mathlib.Core.Bool.{false, false≢true}
 use mathlib.Core.List.{List, [], _∷_}
 use Prim.Native.Nat.{ℕ, _≤_}
 use native.Mathlib.Omega.{arith}
+use denote.Enum.Declared.{tagOf}
+use types.Run.{OneOf, miss}
 use Rattle.token.specs.Tokens.{Tok, tok, tokensAt, Good, Took, startsWith}
 use Rattle.token.specs.declared.kind.Kind.{Kind}
 use Rattle.token.specs.declared.kind.Kind.the-variants.{Dot, Equals, Comma, LeftSquareBracket, RightSquareBracket, LeftCurlyBracket, RightCurlyBracket, Whitespace, Comment, Newline, LiteralString, BasicString, MlLiteralString, MlBasicString, Atom, Eof}
@@ -11,6 +13,8 @@ use Rattle.token.specs.declared.cursor.Token.{Token}
 use Rattle.token.specs.declared.cursor.Cursor.{Cursor}
 use Rattle.rules.specs.declared.scalar.InScalar.{InScalar}
 use Rattle.rules.specs.declared.scalar.Starting.{Starting}
+use Rattle.rules.proofs.scalar.InScalar as in-scalar
+use Rattle.rules.specs.Out.{Out}
 use Rattle.rules.specs.Scalar.{inScalar, startingOf, unquoted, behindSpace, unquotedStep, scalarBy}
 use Rattle.scalars.specs.ScalarWalks.{Reached, scalarOver}
 use Rattle.output.specs.WalkLaws.{rule-at, rule-end}
@@ -37,6 +41,16 @@ no-atom Eof c d ts here a b e = refl
 space-stop : (ts here : List Tok) (a b : ℕ) → startsWith Atom ts ≡ false → behindSpace ts here a b ≡ scalarOver a b here
 space-stop [] here a b e = refl
 space-stop (tok k c d ∷ ts) here a b e = no-atom k c d ts here a b e
+
+-- what the arm tells that takes a Dot or an Atom: the scalar goes on with it
+abbrev More : InScalar → Type 0
+More x = OneOf (0 ∷ 1 ∷ []) (tagOf in-scalar.the-type x)
+
+more-step : (x : InScalar) (more space stop : Out) → More x → unquotedStep x more space stop ≡ more
+more-step InScalar.Dot more space stop w = refl
+more-step InScalar.Atom more space stop w = refl
+more-step InScalar.Whitespace more space stop w = absurd (miss (0 ∷ 1 ∷ []) 2 tt w)
+more-step InScalar.Other more space stop w = absurd (miss (0 ∷ 1 ∷ []) 3 tt w)
 
 -- the loop: the rule from here is the rule from its start
 pub record Runs (s : List ℕ) (e : ℕ) (cur : Cursor) (e₀ : ℕ) (cur₀ : Cursor) : Type 0 where
@@ -65,11 +79,8 @@ module _ {s : List ℕ} {e : ℕ} {cur : Cursor} {e₀ : ℕ} {cur₀ : Cursor} 
     onto : ((a : ℕ) → unquoted (tokensAt s cur) a e ≡ unquoted (tokensAt s d) a (t .end)) → Runs s (t .end) d e₀ cur₀
     onto h = record { same = λ a. inv .same a ∙ h a; good = k .good; on = omega (arith, k .on, inv .on); base = k .base ∙ inv .base }
 
-    pub dot-on : y ≡ InScalar.Dot → Runs s (t .end) d e₀ cur₀
-    dot-on h = onto (by-class InScalar.Dot h)
-
-    pub atom-on : y ≡ InScalar.Atom → Runs s (t .end) d e₀ cur₀
-    atom-on h = onto (by-class InScalar.Atom h)
+    pub more-on : More y → Runs s (t .end) d e₀ cur₀
+    more-on w = onto (λ a. step-at a ∙ more-step y _ _ _ w)
 
     pub other-ends : y ≡ InScalar.Other → Reached s cur₀ e₀ (record { cur = cur; end = e })
     other-ends h = ends (by-class InScalar.Other h)

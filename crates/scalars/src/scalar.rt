@@ -51,11 +51,7 @@ fn reach_of(s: &[u8], c: Cursor, sofar: u32) -> Reach
         let k = t.kind;
         let x = in_scalar(k);
         match x {
-            InScalar::Dot => {
-                end = t.end;
-                cur = past;
-            }
-            InScalar::Atom => {
+            InScalar::Dot | InScalar::Atom => {
                 end = t.end;
                 cur = past;
             }

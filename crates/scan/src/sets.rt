@@ -13,20 +13,7 @@ fn ends_whitespace(b: u8) -> bool
     ensures { λ r. ⌜ r ≡ endsWhitespace b ⌝ }
 {
     match b {
-        b'.' => true,
-        b'=' => true,
-        b',' => true,
-        b'[' => true,
-        b']' => true,
-        b'{' => true,
-        b'}' => true,
-        b' ' => false,
-        b'\t' => false,
-        b'#' => true,
-        b'\r' => true,
-        b'\n' => true,
-        b'\'' => true,
-        b'"' => true,
+        b' ' | b'\t' => false,
         _ => true,
     }
 }
@@ -44,20 +31,9 @@ fn ends_atom(b: u8) -> bool
     ensures { λ r. ⌜ r ≡ endsAtom b ⌝ }
 {
     match b {
-        b'.' => true,
-        b'=' => true,
-        b',' => true,
-        b'[' => true,
-        b']' => true,
-        b'{' => true,
-        b'}' => true,
-        b' ' => true,
-        b'\t' => true,
-        b'#' => true,
-        b'\r' => true,
-        b'\n' => true,
-        b'\'' => false,
-        b'"' => false,
+        b'.' | b'=' | b',' | b'[' | b']' | b'{' | b'}' => true,
+        b' ' | b'\t' => true,
+        b'#' | b'\r' | b'\n' => true,
         _ => false,
     }
 }

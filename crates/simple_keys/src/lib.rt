@@ -34,8 +34,6 @@ pub fn simple_key(
     let x = in_key(k);
     match x {
         InKey::Part(e) => simple_part(s, t, e, past, m, message, events, errors),
-        InKey::Whitespace => on_missing_key(s, t, past, m, message, events, errors),
-        InKey::Dot => on_missing_key(s, t, past, m, message, events, errors),
-        InKey::Other => on_missing_key(s, t, past, m, message, events, errors),
+        _ => on_missing_key(s, t, past, m, message, events, errors),
     }
 }

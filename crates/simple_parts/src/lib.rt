@@ -37,20 +37,16 @@ pub fn on_missing_key(
     let k = t.kind;
     let x = in_line(k);
     match x {
-        InLine::Other => {
-            let n = emit(events, i, Event::Error, t.start, t.end);
-            Walk { cur: c, n }
-        }
         InLine::Comment => on_comment(s, t, c, i, events, errors),
-        InLine::Whitespace => {
-            let n = emit(events, i, Event::Error, t.start, t.end);
-            Walk { cur: c, n }
-        }
         InLine::Newline => {
             let n = emit(events, i, Event::Newline, t.start, t.end);
             Walk { cur: c, n }
         }
         InLine::Eof => Walk { cur: c, n: i },
+        _ => {
+            let n = emit(events, i, Event::Error, t.start, t.end);
+            Walk { cur: c, n }
+        }
     }
 }
 
@@ -69,26 +65,13 @@ pub fn simple_part(
     ensures { λ r. ⌜ Goes (now (s .entry)) (simplePart message encoding (t .start) (t .end) (simpleKeyAt encoding (t .start) (t .end) (tokensAt (now (s .entry)) c))) c (bufs (now (events .entry)) (now (errors .entry)) m) (now (events .exit)) (now (errors .exit)) r ⌝ }
 {
     match encoding {
-        Encoding::None => {
-            let n = emit(events, m, Event::SimpleKey(encoding), t.start, t.end);
-            Walk { cur: c, n }
-        }
-        Encoding::LiteralString => {
-            let n = emit(events, m, Event::SimpleKey(encoding), t.start, t.end);
-            Walk { cur: c, n }
-        }
-        Encoding::BasicString => {
-            let n = emit(events, m, Event::SimpleKey(encoding), t.start, t.end);
-            Walk { cur: c, n }
-        }
-        Encoding::MlLiteralString => {
+        Encoding::MlLiteralString | Encoding::MlBasicString => {
             let i = report_at(errors, m, message, KEY_STRINGS, t, t);
             let n = emit(events, i, Event::SimpleKey(encoding), t.start, t.end);
             Walk { cur: c, n }
         }
-        Encoding::MlBasicString => {
-            let i = report_at(errors, m, message, KEY_STRINGS, t, t);
-            let n = emit(events, i, Event::SimpleKey(encoding), t.start, t.end);
+        _ => {
+            let n = emit(events, m, Event::SimpleKey(encoding), t.start, t.end);
             Walk { cur: c, n }
         }
     }

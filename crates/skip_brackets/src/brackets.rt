@@ -39,22 +39,24 @@ pub fn ignore_to_value_close(
         let k = t.kind;
         let x = in_close(k);
         match x {
-            InClose::Other => {
-                n = emit(events, n, Event::Error, t.start, t.end);
-            }
             InClose::Comment => {
                 let w = on_comment(s, t, cur, n, events, errors);
                 cur = w.cur;
                 n = w.n;
+                continue;
             }
             InClose::Whitespace => {
                 n = emit(events, n, Event::Whitespace, t.start, t.end);
+                continue;
             }
             InClose::Newline => {
                 n = emit(events, n, Event::Newline, t.start, t.end);
+                continue;
+            }
+            InClose::Eof => {
+                return Walk { cur, n };
             }
             InClose::OpenSquare => {
-                n = emit(events, n, Event::Error, t.start, t.end);
                 arrays += 1;
             }
             InClose::CloseSquare => {
@@ -64,38 +66,30 @@ pub fn ignore_to_value_close(
                             n = emit(events, n, Event::ArrayClose, t.start, t.end);
                             return Walk { cur, n };
                         }
-                        Bracket::Curly => {
-                            n = emit(events, n, Event::Error, t.start, t.end);
-                        }
+                        Bracket::Curly => {}
                     }
                 } else {
-                    n = emit(events, n, Event::Error, t.start, t.end);
                     arrays -= 1;
                 }
             }
             InClose::OpenCurly => {
-                n = emit(events, n, Event::Error, t.start, t.end);
                 tables += 1;
             }
             InClose::CloseCurly => {
                 if tables == 0 {
                     match closing {
-                        Bracket::Square => {
-                            n = emit(events, n, Event::Error, t.start, t.end);
-                        }
+                        Bracket::Square => {}
                         Bracket::Curly => {
                             n = emit(events, n, Event::InlineTableClose, t.start, t.end);
                             return Walk { cur, n };
                         }
                     }
                 } else {
-                    n = emit(events, n, Event::Error, t.start, t.end);
                     tables -= 1;
                 }
             }
-            InClose::Eof => {
-                return Walk { cur, n };
-            }
+            InClose::Other => {}
         }
+        n = emit(events, n, Event::Error, t.start, t.end);
     }
 }

@@ -76,30 +76,24 @@ fn to_line_end(
             InLine::Eof => {
                 return Walk { cur, n };
             }
-            InLine::Whitespace => {
+            _ => {
                 if after {
                     n = content_after_comment(n, start, t, events, errors);
                     after = false;
                 } else {
-                    n = emit(events, n, Event::Whitespace, t.start, t.end);
-                }
-            }
-            InLine::Comment => {
-                if after {
-                    n = content_after_comment(n, start, t, events, errors);
-                    after = false;
-                } else {
-                    n = emit(events, n, Event::Comment, t.start, t.end);
-                    after = true;
-                    start = t.start;
-                }
-            }
-            InLine::Other => {
-                if after {
-                    n = content_after_comment(n, start, t, events, errors);
-                    after = false;
-                } else {
-                    n = emit(events, n, Event::Error, t.start, t.end);
+                    match x {
+                        InLine::Whitespace => {
+                            n = emit(events, n, Event::Whitespace, t.start, t.end);
+                        }
+                        InLine::Comment => {
+                            n = emit(events, n, Event::Comment, t.start, t.end);
+                            after = true;
+                            start = t.start;
+                        }
+                        _ => {
+                            n = emit(events, n, Event::Error, t.start, t.end);
+                        }
+                    }
                 }
             }
         }

@@ -1,13 +1,16 @@
 -- Laws of tables, by whether they are array tables and whether the key is valid. Assumes nothing.
 use mathlib.Core.Path.{_≡_, refl, ap, sym, _∙_}
 use mathlib.Core.Bool.{Bool, true, false}
+use mathlib.Core.Logic.{_⊎_, inl, inr}
 use mathlib.Core.List.{List}
 use Prim.Native.Nat.{ℕ}
 use Rattle.token.specs.Tokens.{Tok, allTokens}
 use Rattle.token.specs.declared.cursor.Cursor.{Cursor}
-use Rattle.rules.specs.Out.{Item, Out, _▹_}
+use Rattle.rules.specs.Out.{afterFound, upToFound, report, Item, Out, _▹_}
+use Rattle.rules.specs.Messages as message
+use Rattle.rules.specs.Expected as expected
 use Rattle.rules.specs.Skipping.{ignoreToNewline}
-use Rattle.rules.specs.Table.{closed, unclosed}
+use Rattle.rules.specs.Table.{lastKeyToken, closed, unclosed}
 use Rattle.output.specs.declared.emitting.Walk.{Walk}
 use Rattle.output.specs.Pour.{Bufs, put}
 use Rattle.output.specs.Walks.{Goes}
@@ -23,6 +26,15 @@ unclosed-by x x' y y' a b ts p q = ap (λ (z : Bool). unclosed z y a b ts) p ∙
 pub skipped-invalid : (x : Bool) (a b : ℕ) (ts : List Tok) → unclosed x false a b ts ≡ ignoreToNewline ts
 skipped-invalid true a b ts = refl
 skipped-invalid false a b ts = refl
+
+-- no close: what is reported of an array table, and what of a table; A and B are what the branches tell
+module _ {A B : Type 0} (x : Bool) (m e a b : ℕ) (ts : List Tok) (array : A → x ≡ true) (table : B → x ≡ false) where
+  abbrev Reported : Type 0
+  Reported = unclosed x true a b ts ≡ report m e (upToFound a (lastKeyToken a b ts)) (afterFound (lastKeyToken a b ts)) ▹ ignoreToNewline ts
+
+  pub reported : (A × (m ≡ message.unclosedArrayTable) × (e ≡ expected.closeSquares)) ⊎ (B × (m ≡ message.unclosedTable) × (e ≡ expected.closeSquare)) → Reported
+  reported (inl u) = rw (array (u .0), u .1, u .2) refl
+  reported (inr u) = rw (table (u .0), u .1, u .2) refl
 
 -- a walk after one item whose places look back into the whole list
 pub after-item-at : {s : List ℕ} {r : Out} {c : Cursor} {o₁ : Bufs} {a b : List ℕ} {w : Walk} (i : Item) (o : Bufs) → ((base : ℕ) → c .base ≡ base → o₁ ≡ put (allTokens s base) i o) → Goes s r c o₁ a b w → Goes s (i ▹ r) c o a b w

@@ -47,24 +47,17 @@ pub fn unclosed_table(
             },
             0,
         );
+        let mut message = UNCLOSED_TABLE;
+        let mut expected = CLOSE_SQUARE;
         if array {
-            let n = report(
-                errors,
-                m,
-                UNCLOSED_ARRAY_TABLE,
-                CLOSE_SQUARES,
-                head.start,
-                last.end,
-                last.end,
-                last.end,
-            );
-            return ignore_to_newline(s, c, n, events, errors);
+            message = UNCLOSED_ARRAY_TABLE;
+            expected = CLOSE_SQUARES;
         }
         let n = report(
             errors,
             m,
-            UNCLOSED_TABLE,
-            CLOSE_SQUARE,
+            message,
+            expected,
             head.start,
             last.end,
             last.end,

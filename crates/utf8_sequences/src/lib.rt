@@ -69,29 +69,30 @@ pub fn sequence_at(text: &[u8], at: usize) -> usize
     if b < 194 {
         return 0;
     }
+    let second = at + 1;
     if b < 224 {
-        return two(text, at + 1);
+        return two(text, second);
     }
     if b < 225 {
-        return three(text, at + 1, 160, 191);
+        return three(text, second, 160, 191);
     }
     if b < 237 {
-        return three(text, at + 1, 128, 191);
+        return three(text, second, 128, 191);
     }
     if b < 238 {
-        return three(text, at + 1, 128, 159);
+        return three(text, second, 128, 159);
     }
     if b < 240 {
-        return three(text, at + 1, 128, 191);
+        return three(text, second, 128, 191);
     }
     if b < 241 {
-        return four(text, at + 1, 144, 191);
+        return four(text, second, 144, 191);
     }
     if b < 244 {
-        return four(text, at + 1, 128, 191);
+        return four(text, second, 128, 191);
     }
     if b < 245 {
-        return four(text, at + 1, 128, 143);
+        return four(text, second, 128, 143);
     }
     0
 }

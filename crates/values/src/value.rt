@@ -1,6 +1,6 @@
 // Values.
-use array_parts::brackets::without_open;
 use classes::value::in_value;
+use flat_values::flat_value;
 use key_spaces::nothing_left;
 use nest::nest::NestWalk;
 use nest::nest::on_array_open;
@@ -14,10 +14,8 @@ use output::expected::A_VALUE;
 use output::expected::NOTHING;
 use output::message::EXTRA_EQUALS;
 use output::message::MISSING_VALUE;
-use rules::event::Encoding;
 use rules::event::Event;
 use rules::options::Settings;
-use rules::skipping::Bracket;
 use rules::value::InValue;
 use scalars::scalar::on_scalar;
 use token::cursor::Cursor;
@@ -50,11 +48,6 @@ pub fn value(
         let k = t.kind;
         let x = in_value(k);
         match x {
-            InValue::Nothing => {
-                n = emit(events, n, Event::Scalar(Encoding::None), t.start, t.start);
-                let back = past.back(s);
-                return unstopped(Walk { cur: back, n });
-            }
             InValue::Equals => {
                 n = report_at(errors, n, EXTRA_EQUALS, NOTHING, t, t);
                 n = emit(events, n, Event::Error, t.start, t.end);
@@ -63,19 +56,11 @@ pub fn value(
             InValue::OpenCurly => {
                 return on_inline_table_open(s, t, past, n, settings, events, errors);
             }
-            InValue::CloseCurly => {
-                n = without_open(n, Bracket::Curly, t, events, errors);
-                return unstopped(Walk { cur: past, n });
-            }
             InValue::OpenSquare => {
                 return on_array_open(s, t, past, n, settings, events, errors);
             }
-            InValue::CloseSquare => {
-                n = without_open(n, Bracket::Square, t, events, errors);
-                return unstopped(Walk { cur: past, n });
-            }
-            InValue::Scalar => {
-                let w = on_scalar(s, t, past, n, events, errors);
+            _ => {
+                let w = flat_value(s, x, t, cur, past, n, events, errors);
                 return unstopped(w);
             }
         }
@@ -119,10 +104,7 @@ pub fn usual_value(
                     let w = on_scalar(s, t, past, m, events, errors);
                     return unstopped(w);
                 }
-                InValue::Nothing => {}
-                InValue::Equals => {}
-                InValue::CloseSquare => {}
-                InValue::CloseCurly => {}
+                _ => {}
             }
         }
         Step::Done => {}

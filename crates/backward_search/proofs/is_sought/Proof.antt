@@ -1,6 +1,7 @@
--- One answer a pair of cases: what is sought, and the class of the kind.
+-- One answer a pair of cases: what is sought, and the class of the kind, or the law of an arm that takes several classes.
 -- Made by ./proofs from Proof.tmpl: change that.
 use mathlib.Core.Path.{refl, sym}
+use Rattle.backward_search.proofs.ArmLaws.{passes-trivia, stops-at-rest, passes-all-but-commas, stops-at-solid}
 use borrow.Author.Needs.{needs}
 use Rattle.backward_search.proofs.is_sought.Statement.{statement}
 use Rattle.backward_search.proofs.is_sought.Tie as tie
@@ -23,71 +24,23 @@ enum-told-4 c = search needs
 enum-told-5 : tie.Need-enum-told-5
 enum-told-5 c = search needs
 
-enum-told-6 : tie.Need-enum-told-6
-enum-told-6 c = search needs
-
-enum-told-7 : tie.Need-enum-told-7
-enum-told-7 c = search needs
-
-enum-told-8 : tie.Need-enum-told-8
-enum-told-8 c = search needs
-
-enum-told-9 : tie.Need-enum-told-9
-enum-told-9 c = search needs
-
-enum-told-10 : tie.Need-enum-told-10
-enum-told-10 c = search needs
-
-enum-told-11 : tie.Need-enum-told-11
-enum-told-11 c = search needs
-
-enum-told-12 : tie.Need-enum-told-12
-enum-told-12 c = search needs
-
-enum-told-13 : tie.Need-enum-told-13
-enum-told-13 c = search needs
-
-enum-told-14 : tie.Need-enum-told-14
-enum-told-14 c = search needs
-
-enum-told-15 : tie.Need-enum-told-15
-enum-told-15 c = search needs
-
 returns : tie.Need-returns
-returns c = rw ((c .before .before .enum-told) .given .1, sym ((c .before .before .before .before .in-search) .ensures), (c .enum-told2) .given .1) refl
+returns c = rw ((c .before .enum-told) .given .1, sym ((c .before .before .before .in-search) .ensures)) (passes-trivia ((c .before .before .before .in-search) .result) ((c .match2) .keys1))
 
 returns-2 : tie.Need-returns-2
-returns-2 c = rw ((c .before .before .enum-told) .given .1, sym ((c .before .before .before .before .in-search) .ensures), (c .enum-told3) .given .1) refl
+returns-2 c = rw ((c .before .enum-told) .given .1, sym ((c .before .before .before .in-search) .ensures)) (stops-at-rest ((c .before .before .before .in-search) .result) ((c .match2) .keys2))
 
 returns-3 : tie.Need-returns-3
-returns-3 c = rw ((c .before .before .enum-told) .given .1, sym ((c .before .before .before .before .in-search) .ensures), (c .enum-told4) .given .1) refl
+returns-3 c = rw ((c .before .before .enum-told2) .given .1, sym ((c .before .before .before .before .in-search) .ensures), (c .enum-told3) .given .1) refl
 
 returns-4 : tie.Need-returns-4
-returns-4 c = rw ((c .before .before .enum-told) .given .1, sym ((c .before .before .before .before .in-search) .ensures), (c .enum-told5) .given .1) refl
+returns-4 c = rw ((c .before .enum-told2) .given .1, sym ((c .before .before .before .in-search) .ensures)) (passes-all-but-commas ((c .before .before .before .in-search) .result) ((c .match3) .keys2))
 
 returns-5 : tie.Need-returns-5
-returns-5 c = rw ((c .before .before .enum-told6) .given .1, sym ((c .before .before .before .before .in-search) .ensures), (c .enum-told7) .given .1) refl
+returns-5 c = rw ((c .before .before .enum-told4) .given .1, sym ((c .before .before .before .before .in-search) .ensures), (c .enum-told5) .given .1) refl
 
 returns-6 : tie.Need-returns-6
-returns-6 c = rw ((c .before .before .enum-told6) .given .1, sym ((c .before .before .before .before .in-search) .ensures), (c .enum-told8) .given .1) refl
-
-returns-7 : tie.Need-returns-7
-returns-7 c = rw ((c .before .before .enum-told6) .given .1, sym ((c .before .before .before .before .in-search) .ensures), (c .enum-told9) .given .1) refl
-
-returns-8 : tie.Need-returns-8
-returns-8 c = rw ((c .before .before .enum-told6) .given .1, sym ((c .before .before .before .before .in-search) .ensures), (c .enum-told10) .given .1) refl
-
-returns-9 : tie.Need-returns-9
-returns-9 c = rw ((c .before .before .enum-told11) .given .1, sym ((c .before .before .before .before .in-search) .ensures), (c .enum-told12) .given .1) refl
-
-returns-10 : tie.Need-returns-10
-returns-10 c = rw ((c .before .before .enum-told11) .given .1, sym ((c .before .before .before .before .in-search) .ensures), (c .enum-told13) .given .1) refl
-
-returns-11 : tie.Need-returns-11
-returns-11 c = rw ((c .before .before .enum-told11) .given .1, sym ((c .before .before .before .before .in-search) .ensures), (c .enum-told14) .given .1) refl
-
-returns-12 : tie.Need-returns-12
-returns-12 c = rw ((c .before .before .enum-told11) .given .1, sym ((c .before .before .before .before .in-search) .ensures), (c .enum-told15) .given .1) refl
+returns-6 c = rw ((c .before .enum-told4) .given .1, sym ((c .before .before .before .in-search) .ensures)) (stops-at-solid ((c .before .before .before .in-search) .result) ((c .match4) .keys2))
 
 pub is-sought-spec : {M : Type 1} → statement M
 is-sought-spec =
@@ -99,25 +52,9 @@ is-sought-spec =
     enum-told-3
     enum-told-4
     enum-told-5
-    enum-told-6
-    enum-told-7
-    enum-told-8
-    enum-told-9
-    enum-told-10
-    enum-told-11
-    enum-told-12
-    enum-told-13
-    enum-told-14
-    enum-told-15
     returns
     returns-2
     returns-3
     returns-4
     returns-5
-    returns-6
-    returns-7
-    returns-8
-    returns-9
-    returns-10
-    returns-11
-    returns-12)
+    returns-6)

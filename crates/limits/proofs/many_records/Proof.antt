@@ -12,7 +12,7 @@ show-records-requires : tie.Need-show-records-requires
 show-records-requires c κs = omega (arith, (c .before .pre))
 
 returns : tie.Need-returns
-returns c = search needs
+returns c = tt
 
 pub many-records-spec : {M : Type 1} → statement M
 many-records-spec =

@@ -11,7 +11,7 @@ use Rattle.output.specs.WalkLaws.{Looped, begun, again, finish, first-item, run
 use Rattle.rules.specs.Out.{done}
 use Rattle.rules.specs.Skipping.{leftover}
 use Rattle.output.specs.WalkLaws.{at-end}
-use Rattle.list_ends.proofs.LeftoverLaws.{leftover-at}
+use Rattle.list_ends.proofs.LeftoverLaws.{leftover-at, leftover-rest}
 use borrow.Author.Needs.{needs}
 use Rattle.list_ends.proofs.errors_to_end.Statement.{statement}
 use Rattle.list_ends.proofs.errors_to_end.Tie as tie
@@ -49,73 +49,25 @@ in-line-requires c κs = search needs
 enum-told-2 : tie.Need-enum-told-2 Inv-loop μ-loop
 enum-told-2 c = search needs
 
-emit-requires : tie.Need-emit-requires Inv-loop μ-loop
-emit-requires c κs = search needs
-
 loop-less : tie.Need-loop-less Inv-loop μ-loop
-loop-less c = omega (arith, (told _ _ _ _ _ ((c .before .before .before .before .before .before .before .before .before .before .next) .ensures) ((c .before .before .before .before .before .before .before .before .step) .given .1)) .left, (told _ _ _ _ _ ((c .before .before .before .before .before .before .before .before .before .before .next) .ensures) ((c .before .before .before .before .before .before .before .before .step) .given .1)) .on)
+loop-less c = omega (arith, (told _ _ _ _ _ ((c .before .before .before .before .before .before .next) .ensures) ((c .before .before .before .before .step) .given .1)) .left, (told _ _ _ _ _ ((c .before .before .before .before .before .before .next) .ensures) ((c .before .before .before .before .step) .given .1)) .on)
 
 loop-again : tie.Need-loop-again Inv-loop μ-loop
 loop-again c = (
-  again ((c .before .before .before .before .before .before .before .before .before .before .before .loop) .inv .0) _ _ _ (leftover-at _ _ _ _ (told _ _ _ _ _ ((c .before .before .before .before .before .before .before .before .before .before .next) .ensures) ((c .before .before .before .before .before .before .before .before .step) .given .1)) _ _ ((c .before .before .before .before .before .before .in-line) .ensures) ((c .before .before .before .before .enum-told2) .given .1) _ _ ∙ ((first-item _ _ _ _ _ (c .before .before .emit .ensures _ _)))) (omega (arith, (told _ _ _ _ _ ((c .before .before .before .before .before .before .before .before .before .before .next) .ensures) ((c .before .before .before .before .before .before .before .before .step) .given .1)) .on)) ((told _ _ _ _ _ ((c .before .before .before .before .before .before .before .before .before .before .next) .ensures) ((c .before .before .before .before .before .before .before .before .step) .given .1)) .base) ((told _ _ _ _ _ ((c .before .before .before .before .before .before .before .before .before .before .next) .ensures) ((c .before .before .before .before .before .before .before .before .step) .given .1)) .good),
-  ((c .before .before .emit .kept .0)) ∙ (c .before .before .before .before .before .before .before .before .before .before .before .loop) .inv .1,
+  again ((c .before .before .before .before .before .before .before .loop) .inv .0) _ _ _ (leftover-at _ _ _ _ (told _ _ _ _ _ ((c .before .before .before .before .before .before .next) .ensures) ((c .before .before .before .before .step) .given .1)) _ _ ((c .before .before .in-line) .ensures) ((c .enum-told2) .given .1) _ _ ∙ (refl)) (omega (arith, (told _ _ _ _ _ ((c .before .before .before .before .before .before .next) .ensures) ((c .before .before .before .before .step) .given .1)) .on)) ((told _ _ _ _ _ ((c .before .before .before .before .before .before .next) .ensures) ((c .before .before .before .before .step) .given .1)) .base) ((told _ _ _ _ _ ((c .before .before .before .before .before .before .next) .ensures) ((c .before .before .before .before .step) .given .1)) .good),
+  (refl) ∙ (c .before .before .before .before .before .before .before .loop) .inv .1,
 )
 
-enum-told-3 : tie.Need-enum-told-3 Inv-loop μ-loop
-enum-told-3 c = search needs
-
-emit-requires-2 : tie.Need-emit-requires-2 Inv-loop μ-loop
-emit-requires-2 c κs = search needs
+emit-requires : tie.Need-emit-requires Inv-loop μ-loop
+emit-requires c κs = search needs
 
 loop-less-2 : tie.Need-loop-less-2 Inv-loop μ-loop
-loop-less-2 c = omega (arith, (told _ _ _ _ _ ((c .before .before .before .before .before .before .before .before .before .before .next) .ensures) ((c .before .before .before .before .before .before .before .before .step) .given .1)) .left, (told _ _ _ _ _ ((c .before .before .before .before .before .before .before .before .before .before .next) .ensures) ((c .before .before .before .before .before .before .before .before .step) .given .1)) .on)
+loop-less-2 c = omega (arith, (told _ _ _ _ _ ((c .before .before .before .before .before .before .before .before .before .next) .ensures) ((c .before .before .before .before .before .before .before .step) .given .1)) .left, (told _ _ _ _ _ ((c .before .before .before .before .before .before .before .before .before .next) .ensures) ((c .before .before .before .before .before .before .before .step) .given .1)) .on)
 
 loop-again-2 : tie.Need-loop-again-2 Inv-loop μ-loop
 loop-again-2 c = (
-  again ((c .before .before .before .before .before .before .before .before .before .before .before .loop) .inv .0) _ _ _ (leftover-at _ _ _ _ (told _ _ _ _ _ ((c .before .before .before .before .before .before .before .before .before .before .next) .ensures) ((c .before .before .before .before .before .before .before .before .step) .given .1)) _ _ ((c .before .before .before .before .before .before .in-line) .ensures) ((c .before .before .before .before .enum-told3) .given .1) _ _ ∙ ((first-item _ _ _ _ _ (c .before .before .emit2 .ensures _ _)))) (omega (arith, (told _ _ _ _ _ ((c .before .before .before .before .before .before .before .before .before .before .next) .ensures) ((c .before .before .before .before .before .before .before .before .step) .given .1)) .on)) ((told _ _ _ _ _ ((c .before .before .before .before .before .before .before .before .before .before .next) .ensures) ((c .before .before .before .before .before .before .before .before .step) .given .1)) .base) ((told _ _ _ _ _ ((c .before .before .before .before .before .before .before .before .before .before .next) .ensures) ((c .before .before .before .before .before .before .before .before .step) .given .1)) .good),
-  ((c .before .before .emit2 .kept .0)) ∙ (c .before .before .before .before .before .before .before .before .before .before .before .loop) .inv .1,
-)
-
-enum-told-4 : tie.Need-enum-told-4 Inv-loop μ-loop
-enum-told-4 c = search needs
-
-emit-requires-3 : tie.Need-emit-requires-3 Inv-loop μ-loop
-emit-requires-3 c κs = search needs
-
-loop-less-3 : tie.Need-loop-less-3 Inv-loop μ-loop
-loop-less-3 c = omega (arith, (told _ _ _ _ _ ((c .before .before .before .before .before .before .before .before .before .before .next) .ensures) ((c .before .before .before .before .before .before .before .before .step) .given .1)) .left, (told _ _ _ _ _ ((c .before .before .before .before .before .before .before .before .before .before .next) .ensures) ((c .before .before .before .before .before .before .before .before .step) .given .1)) .on)
-
-loop-again-3 : tie.Need-loop-again-3 Inv-loop μ-loop
-loop-again-3 c = (
-  again ((c .before .before .before .before .before .before .before .before .before .before .before .loop) .inv .0) _ _ _ (leftover-at _ _ _ _ (told _ _ _ _ _ ((c .before .before .before .before .before .before .before .before .before .before .next) .ensures) ((c .before .before .before .before .before .before .before .before .step) .given .1)) _ _ ((c .before .before .before .before .before .before .in-line) .ensures) ((c .before .before .before .before .enum-told4) .given .1) _ _ ∙ ((first-item _ _ _ _ _ (c .before .before .emit3 .ensures _ _)))) (omega (arith, (told _ _ _ _ _ ((c .before .before .before .before .before .before .before .before .before .before .next) .ensures) ((c .before .before .before .before .before .before .before .before .step) .given .1)) .on)) ((told _ _ _ _ _ ((c .before .before .before .before .before .before .before .before .before .before .next) .ensures) ((c .before .before .before .before .before .before .before .before .step) .given .1)) .base) ((told _ _ _ _ _ ((c .before .before .before .before .before .before .before .before .before .before .next) .ensures) ((c .before .before .before .before .before .before .before .before .step) .given .1)) .good),
-  ((c .before .before .emit3 .kept .0)) ∙ (c .before .before .before .before .before .before .before .before .before .before .before .loop) .inv .1,
-)
-
-enum-told-5 : tie.Need-enum-told-5 Inv-loop μ-loop
-enum-told-5 c = search needs
-
-emit-requires-4 : tie.Need-emit-requires-4 Inv-loop μ-loop
-emit-requires-4 c κs = search needs
-
-loop-less-4 : tie.Need-loop-less-4 Inv-loop μ-loop
-loop-less-4 c = omega (arith, (told _ _ _ _ _ ((c .before .before .before .before .before .before .before .before .before .before .next) .ensures) ((c .before .before .before .before .before .before .before .before .step) .given .1)) .left, (told _ _ _ _ _ ((c .before .before .before .before .before .before .before .before .before .before .next) .ensures) ((c .before .before .before .before .before .before .before .before .step) .given .1)) .on)
-
-loop-again-4 : tie.Need-loop-again-4 Inv-loop μ-loop
-loop-again-4 c = (
-  again ((c .before .before .before .before .before .before .before .before .before .before .before .loop) .inv .0) _ _ _ (leftover-at _ _ _ _ (told _ _ _ _ _ ((c .before .before .before .before .before .before .before .before .before .before .next) .ensures) ((c .before .before .before .before .before .before .before .before .step) .given .1)) _ _ ((c .before .before .before .before .before .before .in-line) .ensures) ((c .before .before .before .before .enum-told5) .given .1) _ _ ∙ ((first-item _ _ _ _ _ (c .before .before .emit4 .ensures _ _)))) (omega (arith, (told _ _ _ _ _ ((c .before .before .before .before .before .before .before .before .before .before .next) .ensures) ((c .before .before .before .before .before .before .before .before .step) .given .1)) .on)) ((told _ _ _ _ _ ((c .before .before .before .before .before .before .before .before .before .before .next) .ensures) ((c .before .before .before .before .before .before .before .before .step) .given .1)) .base) ((told _ _ _ _ _ ((c .before .before .before .before .before .before .before .before .before .before .next) .ensures) ((c .before .before .before .before .before .before .before .before .step) .given .1)) .good),
-  ((c .before .before .emit4 .kept .0)) ∙ (c .before .before .before .before .before .before .before .before .before .before .before .loop) .inv .1,
-)
-
-enum-told-6 : tie.Need-enum-told-6 Inv-loop μ-loop
-enum-told-6 c = search needs
-
-loop-less-5 : tie.Need-loop-less-5 Inv-loop μ-loop
-loop-less-5 c = omega (arith, (told _ _ _ _ _ ((c .before .before .before .before .before .before .next) .ensures) ((c .before .before .before .before .step) .given .1)) .left, (told _ _ _ _ _ ((c .before .before .before .before .before .before .next) .ensures) ((c .before .before .before .before .step) .given .1)) .on)
-
-loop-again-5 : tie.Need-loop-again-5 Inv-loop μ-loop
-loop-again-5 c = (
-  again ((c .before .before .before .before .before .before .before .loop) .inv .0) _ _ _ (leftover-at _ _ _ _ (told _ _ _ _ _ ((c .before .before .before .before .before .before .next) .ensures) ((c .before .before .before .before .step) .given .1)) _ _ ((c .before .before .in-line) .ensures) ((c .enum-told6) .given .1) _ _ ∙ (refl)) (omega (arith, (told _ _ _ _ _ ((c .before .before .before .before .before .before .next) .ensures) ((c .before .before .before .before .step) .given .1)) .on)) ((told _ _ _ _ _ ((c .before .before .before .before .before .before .next) .ensures) ((c .before .before .before .before .step) .given .1)) .base) ((told _ _ _ _ _ ((c .before .before .before .before .before .before .next) .ensures) ((c .before .before .before .before .step) .given .1)) .good),
-  (refl) ∙ (c .before .before .before .before .before .before .before .loop) .inv .1,
+  again ((c .before .before .before .before .before .before .before .before .before .before .loop) .inv .0) _ _ _ (leftover-rest _ _ _ _ (told _ _ _ _ _ ((c .before .before .before .before .before .before .before .before .before .next) .ensures) ((c .before .before .before .before .before .before .before .step) .given .1)) _ ((c .before .before .before .before .before .in-line) .ensures) ((c .before .before .before .before .match2) .keys2) _ _ ∙ ((first-item _ _ _ _ _ (c .before .before .emit .ensures _ _)))) (omega (arith, (told _ _ _ _ _ ((c .before .before .before .before .before .before .before .before .before .next) .ensures) ((c .before .before .before .before .before .before .before .step) .given .1)) .on)) ((told _ _ _ _ _ ((c .before .before .before .before .before .before .before .before .before .next) .ensures) ((c .before .before .before .before .before .before .before .step) .given .1)) .base) ((told _ _ _ _ _ ((c .before .before .before .before .before .before .before .before .before .next) .ensures) ((c .before .before .before .before .before .before .before .step) .given .1)) .good),
+  ((c .before .before .emit .kept .0)) ∙ (c .before .before .before .before .before .before .before .before .before .before .loop) .inv .1,
 )
 
 pub errors-to-end-spec : {M : Type 1} → statement M
@@ -132,21 +84,8 @@ errors-to-end-spec =
     returns
     in-line-requires
     enum-told-2
-    emit-requires
     loop-less
     loop-again
-    enum-told-3
-    emit-requires-2
+    emit-requires
     loop-less-2
-    loop-again-2
-    enum-told-4
-    emit-requires-3
-    loop-less-3
-    loop-again-3
-    enum-told-5
-    emit-requires-4
-    loop-less-4
-    loop-again-4
-    enum-told-6
-    loop-less-5
-    loop-again-5)
+    loop-again-2)

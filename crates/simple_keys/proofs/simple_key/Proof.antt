@@ -7,7 +7,7 @@ use Rattle.rules.specs.Keys.{simpleKey}
 use Rattle.key_spaces.specs.Nothing.{nothingLeft}
 use Rattle.rules.specs.Expected as expected
 use Rattle.output.specs.WalkLaws.{told, told-done, by-rule, rule-end, first-item, run-done, goes-by, goes-as, goes-past}
-use Rattle.simple_parts.proofs.SimpleKeyLaws.{simple-at}
+use Rattle.simple_parts.proofs.SimpleKeyLaws.{simple-at, simple-rest}
 use borrow.Author.Needs.{needs}
 use Rattle.simple_keys.proofs.simple_key.Statement.{statement}
 use Rattle.simple_keys.proofs.simple_key.Tie as tie
@@ -42,23 +42,8 @@ enum-known-x c = search needs
 simple-part-requires : tie.Need-simple-part-requires
 simple-part-requires c κs = (told _ _ _ _ _ ((c .before .before .before .before .before .before .before .before .before .next) .ensures) ((c .before .before .before .before .before .before .before .step) .given .1)) .good
 
-enum-told-2 : tie.Need-enum-told-2
-enum-told-2 c = search needs
-
 on-missing-key-requires : tie.Need-on-missing-key-requires
-on-missing-key-requires c κs = (told _ _ _ _ _ ((c .before .before .before .before .before .before .before .before .next) .ensures) ((c .before .before .before .before .before .before .step) .given .1)) .good
-
-enum-told-3 : tie.Need-enum-told-3
-enum-told-3 c = search needs
-
-on-missing-key-requires-2 : tie.Need-on-missing-key-requires-2
-on-missing-key-requires-2 c κs = (told _ _ _ _ _ ((c .before .before .before .before .before .before .before .before .next) .ensures) ((c .before .before .before .before .before .before .step) .given .1)) .good
-
-enum-told-4 : tie.Need-enum-told-4
-enum-told-4 c = search needs
-
-on-missing-key-requires-3 : tie.Need-on-missing-key-requires-3
-on-missing-key-requires-3 c κs = (told _ _ _ _ _ ((c .before .before .before .before .before .before .before .before .next) .ensures) ((c .before .before .before .before .before .before .step) .given .1)) .good
+on-missing-key-requires c κs = (told _ _ _ _ _ ((c .before .before .before .before .before .before .before .next) .ensures) ((c .before .before .before .before .before .step) .given .1)) .good
 
 same-length-2 : tie.Need-same-length-2
 same-length-2 c = search needs
@@ -76,25 +61,7 @@ same-length-5 : tie.Need-same-length-5
 same-length-5 c = search needs
 
 returns-3 : tie.Need-returns-3
-returns-3 c = goes-as (sym (simple-at _ _ _ _ (told _ _ _ _ _ ((c .before .before .before .before .before .before .before .before .before .before .before .before .before .next) .ensures) ((c .before .before .before .before .before .before .before .before .before .before .before .step) .given .1)) _ _ ((c .before .before .before .before .before .before .before .before .before .in-key) .ensures) ((c .before .before .before .before .before .before .before .enum-told2) .given .1) ((c .before .before .before .before .before .before .before .before .before .before .before .before .before .before .before .before .before .args) .message))) (goes-past (told _ _ _ _ _ ((c .before .before .before .before .before .before .before .before .before .before .before .before .before .next) .ensures) ((c .before .before .before .before .before .before .before .before .before .before .before .step) .given .1)) ((c .before .before .before .before .on-missing-key) .ensures))
-
-same-length-6 : tie.Need-same-length-6
-same-length-6 c = search needs
-
-same-length-7 : tie.Need-same-length-7
-same-length-7 c = search needs
-
-returns-4 : tie.Need-returns-4
-returns-4 c = goes-as (sym (simple-at _ _ _ _ (told _ _ _ _ _ ((c .before .before .before .before .before .before .before .before .before .before .before .before .before .next) .ensures) ((c .before .before .before .before .before .before .before .before .before .before .before .step) .given .1)) _ _ ((c .before .before .before .before .before .before .before .before .before .in-key) .ensures) ((c .before .before .before .before .before .before .before .enum-told3) .given .1) ((c .before .before .before .before .before .before .before .before .before .before .before .before .before .before .before .before .before .args) .message))) (goes-past (told _ _ _ _ _ ((c .before .before .before .before .before .before .before .before .before .before .before .before .before .next) .ensures) ((c .before .before .before .before .before .before .before .before .before .before .before .step) .given .1)) ((c .before .before .before .before .on-missing-key2) .ensures))
-
-same-length-8 : tie.Need-same-length-8
-same-length-8 c = search needs
-
-same-length-9 : tie.Need-same-length-9
-same-length-9 c = search needs
-
-returns-5 : tie.Need-returns-5
-returns-5 c = goes-as (sym (simple-at _ _ _ _ (told _ _ _ _ _ ((c .before .before .before .before .before .before .before .before .before .before .before .before .before .next) .ensures) ((c .before .before .before .before .before .before .before .before .before .before .before .step) .given .1)) _ _ ((c .before .before .before .before .before .before .before .before .before .in-key) .ensures) ((c .before .before .before .before .before .before .before .enum-told4) .given .1) ((c .before .before .before .before .before .before .before .before .before .before .before .before .before .before .before .before .before .args) .message))) (goes-past (told _ _ _ _ _ ((c .before .before .before .before .before .before .before .before .before .before .before .before .before .next) .ensures) ((c .before .before .before .before .before .before .before .before .before .before .before .step) .given .1)) ((c .before .before .before .before .on-missing-key3) .ensures))
+returns-3 c = goes-as (sym (simple-rest _ _ _ _ (told _ _ _ _ _ ((c .before .before .before .before .before .before .before .before .before .before .before .before .next) .ensures) ((c .before .before .before .before .before .before .before .before .before .before .step) .given .1)) _ ((c .before .before .before .before .before .before .before .before .in-key) .ensures) ((c .before .before .before .before .before .before .before .match2) .keys2) ((c .before .before .before .before .before .before .before .before .before .before .before .before .before .before .before .before .args) .message))) (goes-past (told _ _ _ _ _ ((c .before .before .before .before .before .before .before .before .before .before .before .before .next) .ensures) ((c .before .before .before .before .before .before .before .before .before .before .step) .given .1)) ((c .before .before .before .before .on-missing-key) .ensures))
 
 pub simple-key-spec : {M : Type 1} → statement M
 simple-key-spec =
@@ -109,21 +76,10 @@ simple-key-spec =
     in-key-requires
     enum-known-x
     simple-part-requires
-    enum-told-2
     on-missing-key-requires
-    enum-told-3
-    on-missing-key-requires-2
-    enum-told-4
-    on-missing-key-requires-3
     same-length-2
     same-length-3
     returns-2
     same-length-4
     same-length-5
-    returns-3
-    same-length-6
-    same-length-7
-    returns-4
-    same-length-8
-    same-length-9
-    returns-5)
+    returns-3)

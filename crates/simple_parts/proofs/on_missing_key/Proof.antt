@@ -3,7 +3,7 @@
 use mathlib.Core.Path.{refl, sym, _∙_}
 use native.Mathlib.Omega.{arith}
 use Rattle.output.specs.WalkLaws.{by-rule, first-item, run-done, goes-by, goes-as, after-item}
-use Rattle.simple_parts.proofs.SimpleKeyLaws.{missing-by}
+use Rattle.simple_parts.proofs.SimpleKeyLaws.{missing-by, missing-rest}
 use borrow.Author.Needs.{needs}
 use Rattle.simple_parts.proofs.on_missing_key.Statement.{statement}
 use Rattle.simple_parts.proofs.on_missing_key.Tie as tie
@@ -17,29 +17,20 @@ in-line-requires c κs = search needs
 enum-told : tie.Need-enum-told
 enum-told c = search needs
 
-emit-requires : tie.Need-emit-requires
-emit-requires c κs = search needs
+on-comment-requires : tie.Need-on-comment-requires
+on-comment-requires c κs = (c .before .before .before .before .before .before .before .before .before .before .before .before .pre)
 
 enum-told-2 : tie.Need-enum-told-2
 enum-told-2 c = search needs
 
-on-comment-requires : tie.Need-on-comment-requires
-on-comment-requires c κs = (c .before .before .before .before .before .before .before .before .before .before .before .before .pre)
+emit-requires : tie.Need-emit-requires
+emit-requires c κs = search needs
 
 enum-told-3 : tie.Need-enum-told-3
 enum-told-3 c = search needs
 
 emit-requires-2 : tie.Need-emit-requires-2
 emit-requires-2 c κs = search needs
-
-enum-told-4 : tie.Need-enum-told-4
-enum-told-4 c = search needs
-
-emit-requires-3 : tie.Need-emit-requires-3
-emit-requires-3 c κs = search needs
-
-enum-told-5 : tie.Need-enum-told-5
-enum-told-5 c = search needs
 
 same-length : tie.Need-same-length
 same-length c = search needs
@@ -48,7 +39,7 @@ same-length-2 : tie.Need-same-length-2
 same-length-2 c = search needs
 
 returns : tie.Need-returns
-returns c = goes-by _ _ _ _ _ _ (λ base q. by-rule _ _ _ _ (missing-by ((c .before .before .before .before .before .before .before .before .before .before .before .before .before .before .args) .message) ((c .before .before .before .before .before .before .before .before .before .before .before .before .before .before .args) .t .kind) ((c .before .before .before .before .before .before .before .before .before .before .before .before .before .before .args) .t .start) ((c .before .before .before .before .before .before .before .before .before .before .before .before .before .before .args) .t .end) _ _ _ ((c .before .before .before .before .before .before .in-line) .ensures) ((c .before .before .before .before .enum-told) .given .1)) ∙ ((first-item _ _ _ _ _ (c .before .before .before .before .before .before .before .before .before .report-before .ensures _ _)) ∙ (first-item _ _ _ _ _ (c .before .before .emit .ensures _ _))) ∙ run-done _ _ _ _ _ _) (c .before .before .before .before .before .before .before .before .before .before .before .before .before .before .pre) (omega arith) refl
+returns c = goes-as (sym (missing-by ((c .before .before .before .before .before .before .before .before .before .before .before .before .before .before .before .before .before .args) .message) ((c .before .before .before .before .before .before .before .before .before .before .before .before .before .before .before .before .before .args) .t .kind) ((c .before .before .before .before .before .before .before .before .before .before .before .before .before .before .before .before .before .args) .t .start) ((c .before .before .before .before .before .before .before .before .before .before .before .before .before .before .before .before .before .args) .t .end) _ _ _ ((c .before .before .before .before .before .before .before .before .before .in-line) .ensures) ((c .before .before .before .before .before .before .before .enum-told) .given .1))) (after-item _ _ (λ all. (c .before .before .before .before .before .before .before .before .before .before .before .before .report-before) .ensures all _) ((c .before .before .before .before .on-comment) .ensures))
 
 same-length-3 : tie.Need-same-length-3
 same-length-3 c = search needs
@@ -57,31 +48,22 @@ same-length-4 : tie.Need-same-length-4
 same-length-4 c = search needs
 
 returns-2 : tie.Need-returns-2
-returns-2 c = goes-as (sym (missing-by ((c .before .before .before .before .before .before .before .before .before .before .before .before .before .before .before .before .before .args) .message) ((c .before .before .before .before .before .before .before .before .before .before .before .before .before .before .before .before .before .args) .t .kind) ((c .before .before .before .before .before .before .before .before .before .before .before .before .before .before .before .before .before .args) .t .start) ((c .before .before .before .before .before .before .before .before .before .before .before .before .before .before .before .before .before .args) .t .end) _ _ _ ((c .before .before .before .before .before .before .before .before .before .in-line) .ensures) ((c .before .before .before .before .before .before .before .enum-told2) .given .1))) (after-item _ _ (λ all. (c .before .before .before .before .before .before .before .before .before .before .before .before .report-before) .ensures all _) ((c .before .before .before .before .on-comment) .ensures))
+returns-2 c = goes-by _ _ _ _ _ _ (λ base q. by-rule _ _ _ _ (missing-by ((c .before .before .before .before .before .before .before .before .before .before .before .before .before .before .args) .message) ((c .before .before .before .before .before .before .before .before .before .before .before .before .before .before .args) .t .kind) ((c .before .before .before .before .before .before .before .before .before .before .before .before .before .before .args) .t .start) ((c .before .before .before .before .before .before .before .before .before .before .before .before .before .before .args) .t .end) _ _ _ ((c .before .before .before .before .before .before .in-line) .ensures) ((c .before .before .before .before .enum-told2) .given .1)) ∙ ((first-item _ _ _ _ _ (c .before .before .before .before .before .before .before .before .before .report-before .ensures _ _)) ∙ (first-item _ _ _ _ _ (c .before .before .emit .ensures _ _))) ∙ run-done _ _ _ _ _ _) (c .before .before .before .before .before .before .before .before .before .before .before .before .before .before .pre) (omega arith) refl
 
 same-length-5 : tie.Need-same-length-5
 same-length-5 c = search needs
 
+returns-3 : tie.Need-returns-3
+returns-3 c = goes-by _ _ _ _ _ _ (λ base q. by-rule _ _ _ _ (missing-by ((c .before .before .before .before .before .before .before .before .before .before .args) .message) ((c .before .before .before .before .before .before .before .before .before .before .args) .t .kind) ((c .before .before .before .before .before .before .before .before .before .before .args) .t .start) ((c .before .before .before .before .before .before .before .before .before .before .args) .t .end) _ _ _ ((c .before .before .in-line) .ensures) ((c .enum-told3) .given .1)) ∙ ((first-item _ _ _ _ _ (c .before .before .before .before .before .report-before .ensures _ _))) ∙ run-done _ _ _ _ _ _) (c .before .before .before .before .before .before .before .before .before .before .pre) (omega arith) refl
+
 same-length-6 : tie.Need-same-length-6
 same-length-6 c = search needs
-
-returns-3 : tie.Need-returns-3
-returns-3 c = goes-by _ _ _ _ _ _ (λ base q. by-rule _ _ _ _ (missing-by ((c .before .before .before .before .before .before .before .before .before .before .before .before .before .before .args) .message) ((c .before .before .before .before .before .before .before .before .before .before .before .before .before .before .args) .t .kind) ((c .before .before .before .before .before .before .before .before .before .before .before .before .before .before .args) .t .start) ((c .before .before .before .before .before .before .before .before .before .before .before .before .before .before .args) .t .end) _ _ _ ((c .before .before .before .before .before .before .in-line) .ensures) ((c .before .before .before .before .enum-told3) .given .1)) ∙ ((first-item _ _ _ _ _ (c .before .before .before .before .before .before .before .before .before .report-before .ensures _ _)) ∙ (first-item _ _ _ _ _ (c .before .before .emit2 .ensures _ _))) ∙ run-done _ _ _ _ _ _) (c .before .before .before .before .before .before .before .before .before .before .before .before .before .before .pre) (omega arith) refl
 
 same-length-7 : tie.Need-same-length-7
 same-length-7 c = search needs
 
-same-length-8 : tie.Need-same-length-8
-same-length-8 c = search needs
-
 returns-4 : tie.Need-returns-4
-returns-4 c = goes-by _ _ _ _ _ _ (λ base q. by-rule _ _ _ _ (missing-by ((c .before .before .before .before .before .before .before .before .before .before .before .before .before .before .args) .message) ((c .before .before .before .before .before .before .before .before .before .before .before .before .before .before .args) .t .kind) ((c .before .before .before .before .before .before .before .before .before .before .before .before .before .before .args) .t .start) ((c .before .before .before .before .before .before .before .before .before .before .before .before .before .before .args) .t .end) _ _ _ ((c .before .before .before .before .before .before .in-line) .ensures) ((c .before .before .before .before .enum-told4) .given .1)) ∙ ((first-item _ _ _ _ _ (c .before .before .before .before .before .before .before .before .before .report-before .ensures _ _)) ∙ (first-item _ _ _ _ _ (c .before .before .emit3 .ensures _ _))) ∙ run-done _ _ _ _ _ _) (c .before .before .before .before .before .before .before .before .before .before .before .before .before .before .pre) (omega arith) refl
-
-same-length-9 : tie.Need-same-length-9
-same-length-9 c = search needs
-
-returns-5 : tie.Need-returns-5
-returns-5 c = goes-by _ _ _ _ _ _ (λ base q. by-rule _ _ _ _ (missing-by ((c .before .before .before .before .before .before .before .before .before .before .args) .message) ((c .before .before .before .before .before .before .before .before .before .before .args) .t .kind) ((c .before .before .before .before .before .before .before .before .before .before .args) .t .start) ((c .before .before .before .before .before .before .before .before .before .before .args) .t .end) _ _ _ ((c .before .before .in-line) .ensures) ((c .enum-told5) .given .1)) ∙ ((first-item _ _ _ _ _ (c .before .before .before .before .before .report-before .ensures _ _))) ∙ run-done _ _ _ _ _ _) (c .before .before .before .before .before .before .before .before .before .before .pre) (omega arith) refl
+returns-4 c = goes-by _ _ _ _ _ _ (λ base q. by-rule _ _ _ _ (missing-rest ((c .before .before .before .before .before .before .before .before .before .before .before .before .before .args) .message) ((c .before .before .before .before .before .before .before .before .before .before .before .before .before .args) .t .kind) ((c .before .before .before .before .before .before .before .before .before .before .before .before .before .args) .t .start) ((c .before .before .before .before .before .before .before .before .before .before .before .before .before .args) .t .end) _ _ ((c .before .before .before .before .before .in-line) .ensures) ((c .before .before .before .before .match) .keys4)) ∙ ((first-item _ _ _ _ _ (c .before .before .before .before .before .before .before .before .report-before .ensures _ _)) ∙ (first-item _ _ _ _ _ (c .before .before .emit2 .ensures _ _))) ∙ run-done _ _ _ _ _ _) (c .before .before .before .before .before .before .before .before .before .before .before .before .before .pre) (omega arith) refl
 
 pub on-missing-key-spec : {M : Type 1} → statement M
 on-missing-key-spec =
@@ -90,14 +72,11 @@ on-missing-key-spec =
     report-before-requires
     in-line-requires
     enum-told
-    emit-requires
-    enum-told-2
     on-comment-requires
+    enum-told-2
+    emit-requires
     enum-told-3
     emit-requires-2
-    enum-told-4
-    emit-requires-3
-    enum-told-5
     same-length
     same-length-2
     returns
@@ -105,10 +84,7 @@ on-missing-key-spec =
     same-length-4
     returns-2
     same-length-5
-    same-length-6
     returns-3
+    same-length-6
     same-length-7
-    same-length-8
-    returns-4
-    same-length-9
-    returns-5)
+    returns-4)

@@ -35,9 +35,6 @@ loop-less c = omega (arith, again-moved ((c .before .before .before .before .bef
 loop-again : tie.Need-loop-again Inv-loop μ-loop
 loop-again c = (running-next ((c .before .before .before .before .before .before .before .before .before .before .before .before .loop) .inv .0) _ ((c .before .before .before .before .before .before .before .before .before .array-turn) .ensures .0) ((c .before .before .enum-told) .given .1), ((c .before .before .before .before .before .before .before .before .before .array-turn .kept .1 .1 .1 .1 .1 .0)) ∙ (c .before .before .before .before .before .before .before .before .before .before .before .before .loop) .inv .1, ((c .before .before .before .before .before .before .before .before .before .array-turn .kept .1 .1 .1 .1 .1 .1 .0)) ∙ (c .before .before .before .before .before .before .before .before .before .before .before .before .loop) .inv .2)
 
-enum-told-2 : tie.Need-enum-told-2 Inv-loop μ-loop
-enum-told-2 c = search needs
-
 same-length : tie.Need-same-length Inv-loop μ-loop
 same-length c = search needs
 
@@ -45,31 +42,7 @@ same-length-2 : tie.Need-same-length-2 Inv-loop μ-loop
 same-length-2 c = search needs
 
 returns : tie.Need-returns Inv-loop μ-loop
-returns c = ran ((c .before .before .before .before .before .before .before .before .before .before .loop) .inv .0) _ ((c .before .before .before .before .before .before .before .array-turn) .ensures .0) ((c .before .before .before .before .before .before .before .array-turn) .ensures .1)
-
-enum-told-3 : tie.Need-enum-told-3 Inv-loop μ-loop
-enum-told-3 c = search needs
-
-same-length-3 : tie.Need-same-length-3 Inv-loop μ-loop
-same-length-3 c = search needs
-
-same-length-4 : tie.Need-same-length-4 Inv-loop μ-loop
-same-length-4 c = search needs
-
-returns-2 : tie.Need-returns-2 Inv-loop μ-loop
-returns-2 c = ran ((c .before .before .before .before .before .before .before .before .before .before .loop) .inv .0) _ ((c .before .before .before .before .before .before .before .array-turn) .ensures .0) ((c .before .before .before .before .before .before .before .array-turn) .ensures .1)
-
-enum-told-4 : tie.Need-enum-told-4 Inv-loop μ-loop
-enum-told-4 c = search needs
-
-same-length-5 : tie.Need-same-length-5 Inv-loop μ-loop
-same-length-5 c = search needs
-
-same-length-6 : tie.Need-same-length-6 Inv-loop μ-loop
-same-length-6 c = search needs
-
-returns-3 : tie.Need-returns-3 Inv-loop μ-loop
-returns-3 c = ran ((c .before .before .before .before .before .before .before .before .before .before .loop) .inv .0) _ ((c .before .before .before .before .before .before .before .array-turn) .ensures .0) ((c .before .before .before .before .before .before .before .array-turn) .ensures .1)
+returns c = ran ((c .before .before .before .before .before .before .before .before .before .loop) .inv .0) _ ((c .before .before .before .before .before .before .array-turn) .ensures .0) ((c .before .before .before .before .before .before .array-turn) .ensures .1)
 
 pub array-turns-spec : {M : Type 1} → statement M
 array-turns-spec =
@@ -82,15 +55,6 @@ array-turns-spec =
     enum-told
     loop-less
     loop-again
-    enum-told-2
     same-length
     same-length-2
-    returns
-    enum-told-3
-    same-length-3
-    same-length-4
-    returns-2
-    enum-told-4
-    same-length-5
-    same-length-6
-    returns-3)
+    returns)

@@ -1,6 +1,9 @@
 -- By the class.
 -- Made by ./proofs from Proof.tmpl: change that.
-use mathlib.Core.Path.{sym, _∙_}
+use mathlib.Core.Path.{ap, sym, _∙_}
+use Rattle.token.specs.declared.cursor.Sought.{Sought}
+use Rattle.token.specs.Search.{stopsAt}
+use Rattle.blamed_commas.proofs.ClassLaws.{no-comma}
 use borrow.Author.Needs.{needs}
 use Rattle.blamed_commas.proofs.commas.is_comma.Statement.{statement}
 use Rattle.blamed_commas.proofs.commas.is_comma.Tie as tie
@@ -11,26 +14,11 @@ in-search-requires c κs = search needs
 enum-told : tie.Need-enum-told
 enum-told c = search needs
 
-enum-told-2 : tie.Need-enum-told-2
-enum-told-2 c = search needs
-
-enum-told-3 : tie.Need-enum-told-3
-enum-told-3 c = search needs
-
-enum-told-4 : tie.Need-enum-told-4
-enum-told-4 c = search needs
-
 returns : tie.Need-returns
 returns c = rw (sym ((c .before .before .in-search) .ensures) ∙ (c .enum-told) .given .1)
 
 returns-2 : tie.Need-returns-2
-returns-2 c = rw (sym ((c .before .before .in-search) .ensures) ∙ (c .enum-told2) .given .1)
-
-returns-3 : tie.Need-returns-3
-returns-3 c = rw (sym ((c .before .before .in-search) .ensures) ∙ (c .enum-told3) .given .1)
-
-returns-4 : tie.Need-returns-4
-returns-4 c = rw (sym ((c .before .before .in-search) .ensures) ∙ (c .enum-told4) .given .1)
+returns-2 c = no-comma ((c .before .in-search) .result) ((c .match) .keys2) ∙ ap (stopsAt Sought.Comma) ((c .before .in-search) .ensures)
 
 pub is-comma-spec : {M : Type 1} → statement M
 is-comma-spec =
@@ -38,10 +26,5 @@ is-comma-spec =
     (tie.spec
     in-search-requires
     enum-told
-    enum-told-2
-    enum-told-3
-    enum-told-4
     returns
-    returns-2
-    returns-3
-    returns-4)
+    returns-2)

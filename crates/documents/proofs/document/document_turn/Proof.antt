@@ -1,19 +1,17 @@
--- One answer an arm: the walk, and that the loop goes on after it or is over. The three arms at which a key starts meet.
+-- One answer an arm: the walk, and that the loop goes on after it or is over. The three arms at which a key starts meet; one arm is for all at which none does.
 -- Made by ./proofs from Proof.tmpl: change that.
 use mathlib.Core.Path.{refl, sym, _∙_}
 use mathlib.Core.Bool.{false≢true}
 use native.Mathlib.Omega.{arith}
 use lib.ListN.{length}
 use Rattle.token.specs.Tokens.{tokensAt}
-use Rattle.rules.specs.Out.{done, _▹_}
-use Rattle.rules.specs.Receiver as receiver
-use Rattle.rules.specs.Skipping.{onComment}
-use Rattle.rules.specs.Table.{onTable}
-use Rattle.rules.specs.Document.{documentTurn, onMissingExpressionKey, onMissingStdTable}
+use Rattle.rules.specs.Out.{done}
+use Rattle.rules.specs.Document.{documentTurn}
 use Rattle.output.specs.Pour.{bufs}
-use Rattle.output.specs.WalkLaws.{told, told-done, rule-end, first-item, run-done, goes-by}
+use Rattle.output.specs.WalkLaws.{told, told-done, rule-end, run-done, goes-by}
+use Rattle.keyless_turns.specs.Keyless.{keyless}
 use Rattle.nest.specs.NestedLaws.{nested-goes, nested-past}
-use Rattle.documents.proofs.DocumentLaws.{document-at, document-dot, document-equals, stepped-as}
+use Rattle.documents.proofs.DocumentLaws.{document-at, document-keyless, document-dot, document-equals, stepped-as}
 use Rattle.documents.proofs.KeyTurnLaws.{Met, meet, any-of, begun-key, begun-equals, begun-dot}
 use borrow.Author.Needs.{needs}
 use Rattle.documents.proofs.document.document_turn.Statement.{statement}
@@ -44,11 +42,45 @@ returns c =
 in-document-requires : tie.Need-in-document-requires
 in-document-requires c κs = search needs
 
+enum-known-x : tie.Need-enum-known-x
+enum-known-x c = search needs
+
+on-expression-key-requires : tie.Need-on-expression-key-requires
+on-expression-key-requires c κs = search needs
+
 enum-told-2 : tie.Need-enum-told-2
 enum-told-2 c = search needs
 
-on-table-requires : tie.Need-on-table-requires
-on-table-requires c κs = (told _ _ _ _ _ ((c .before .before .before .before .before .before .before .before .next) .ensures) ((c .before .before .before .before .before .before .step) .given .1)) .good
+empty-key-requires : tie.Need-empty-key-requires
+empty-key-requires c κs = search needs
+
+back-requires : tie.Need-back-requires
+back-requires c κs = ((told _ _ _ _ _ ((c .before .before .before .before .before .before .before .before .before .before .next) .ensures) ((c .before .before .before .before .before .before .before .before .step) .given .1)) .good, omega (arith, (told _ _ _ _ _ ((c .before .before .before .before .before .before .before .before .before .before .next) .ensures) ((c .before .before .before .before .before .before .before .before .step) .given .1)) .on))
+
+enum-told-3 : tie.Need-enum-told-3
+enum-told-3 c = search needs
+
+on-expression-dot-requires : tie.Need-on-expression-dot-requires
+on-expression-dot-requires c κs = ((told _ _ _ _ _ ((c .before .before .before .before .before .before .before .next) .ensures) ((c .before .before .before .before .before .step) .given .1)) .good, record { from = (c .before .before .before .before .before .before .before .before .before .before .before .args) .c; good = (c .before .before .before .before .before .before .before .before .before .before .before .pre); took = (told _ _ _ _ _ ((c .before .before .before .before .before .before .before .next) .ensures) ((c .before .before .before .before .before .step) .given .1)); dot = document-dot ((c .before .before .before .before .before .step) .given .0 .0 .kind) _ ((c .before .before .before .in-document) .ensures) ((c .before .enum-told3) .given .1) })
+
+enum-told-4 : tie.Need-enum-told-4
+enum-told-4 c = search needs
+
+ended-requires-2 : tie.Need-ended-requires-2
+ended-requires-2 c κs = search needs
+
+returns-2 : tie.Need-returns-2
+returns-2 c =
+    stepped-as ((c .ended2) .ensures) (record {
+      g = done (tokensAt ((c .before .before .before .before .before .before .before .before .before .before .before .args) .s .now) ((c .before .before .before .before .before .step) .given .0 .1 .0));
+      walk = nested-goes (goes-by _ _ _ _ _ _ (λ base q. run-done _ _ _ _ _ _) ((told _ _ _ _ _ ((c .before .before .before .before .before .before .before .next) .ensures) ((c .before .before .before .before .before .step) .given .1)) .good) (omega (arith, (told _ _ _ _ _ ((c .before .before .before .before .before .before .before .next) .ensures) ((c .before .before .before .before .before .step) .given .1)) .on)) ((told _ _ _ _ _ ((c .before .before .before .before .before .before .before .next) .ensures) ((c .before .before .before .before .before .step) .given .1)) .base));
+      goes-on = λ q. absurd (false≢true (sym q));
+      ends = λ q. (λ loop. document-at _ _ _ _ (told _ _ _ _ _ ((c .before .before .before .before .before .before .before .next) .ensures) ((c .before .before .before .before .before .step) .given .1)) _ _ ((c .before .before .before .in-document) .ensures) ((c .before .enum-told4) .given .1) ((c .before .before .before .before .before .before .before .before .before .before .before .args) .settings .levels) loop);
+      further = λ q. absurd (false≢true (sym q));
+    })
+
+keyless-turn-requires : tie.Need-keyless-turn-requires
+keyless-turn-requires c κs = (told _ _ _ _ _ ((c .before .before .before .before .before .before .before .next) .ensures) ((c .before .before .before .before .before .step) .given .1)) .good
 
 going-on-requires : tie.Need-going-on-requires
 going-on-requires c κs = search needs
@@ -59,155 +91,27 @@ same-length c = search needs
 same-length-2 : tie.Need-same-length-2
 same-length-2 c = search needs
 
-returns-2 : tie.Need-returns-2
-returns-2 c = stepped-as ((c .going-on) .ensures) (record { g = onTable ((c .before .before .before .before .before .before .before .before .before .before .before .before .step) .given .0 .0 .start) ((c .before .before .before .before .before .before .before .before .before .before .before .before .step) .given .0 .0 .end) (tokensAt ((c .before .before .before .before .before .before .before .before .before .before .before .before .before .before .before .before .before .before .args) .s .now) ((c .before .before .before .before .before .before .before .before .before .before .before .before .step) .given .0 .1 .0)); walk = nested-past (told _ _ _ _ _ ((c .before .before .before .before .before .before .before .before .before .before .before .before .before .before .next) .ensures) ((c .before .before .before .before .before .before .before .before .before .before .before .before .step) .given .1)) (nested-goes ((c .before .before .before .before .before .on-table) .ensures)); goes-on = λ q. (λ loop. document-at _ _ _ _ (told _ _ _ _ _ ((c .before .before .before .before .before .before .before .before .before .before .before .before .before .before .next) .ensures) ((c .before .before .before .before .before .before .before .before .before .before .before .before .step) .given .1)) _ _ ((c .before .before .before .before .before .before .before .before .before .before .in-document) .ensures) ((c .before .before .before .before .before .before .before .before .enum-told2) .given .1) ((c .before .before .before .before .before .before .before .before .before .before .before .before .before .before .before .before .before .before .args) .settings .levels) loop); ends = λ q. absurd (false≢true q); further = λ q. omega (arith, (told _ _ _ _ _ ((c .before .before .before .before .before .before .before .before .before .before .before .before .before .before .next) .ensures) ((c .before .before .before .before .before .before .before .before .before .before .before .before .step) .given .1)) .on, (c .before .before .before .before .before .on-table) .ensures .on) })
-
-enum-told-3 : tie.Need-enum-told-3
-enum-told-3 c = search needs
-
-on-missing-std-table-requires : tie.Need-on-missing-std-table-requires
-on-missing-std-table-requires c κs = (told _ _ _ _ _ ((c .before .before .before .before .before .before .before .before .next) .ensures) ((c .before .before .before .before .before .before .step) .given .1)) .good
-
-going-on-requires-2 : tie.Need-going-on-requires-2
-going-on-requires-2 c κs = search needs
-
-same-length-3 : tie.Need-same-length-3
-same-length-3 c = search needs
-
-same-length-4 : tie.Need-same-length-4
-same-length-4 c = search needs
-
 returns-3 : tie.Need-returns-3
-returns-3 c = stepped-as ((c .going-on2) .ensures) (record { g = onMissingStdTable ((c .before .before .before .before .before .before .before .before .before .before .before .before .step) .given .0 .0 .start) ((c .before .before .before .before .before .before .before .before .before .before .before .before .step) .given .0 .0 .end) (tokensAt ((c .before .before .before .before .before .before .before .before .before .before .before .before .before .before .before .before .before .before .args) .s .now) ((c .before .before .before .before .before .before .before .before .before .before .before .before .step) .given .0 .1 .0)); walk = nested-past (told _ _ _ _ _ ((c .before .before .before .before .before .before .before .before .before .before .before .before .before .before .next) .ensures) ((c .before .before .before .before .before .before .before .before .before .before .before .before .step) .given .1)) (nested-goes ((c .before .before .before .before .before .on-missing-std-table) .ensures)); goes-on = λ q. (λ loop. document-at _ _ _ _ (told _ _ _ _ _ ((c .before .before .before .before .before .before .before .before .before .before .before .before .before .before .next) .ensures) ((c .before .before .before .before .before .before .before .before .before .before .before .before .step) .given .1)) _ _ ((c .before .before .before .before .before .before .before .before .before .before .in-document) .ensures) ((c .before .before .before .before .before .before .before .before .enum-told3) .given .1) ((c .before .before .before .before .before .before .before .before .before .before .before .before .before .before .before .before .before .before .args) .settings .levels) loop); ends = λ q. absurd (false≢true q); further = λ q. omega (arith, (told _ _ _ _ _ ((c .before .before .before .before .before .before .before .before .before .before .before .before .before .before .next) .ensures) ((c .before .before .before .before .before .before .before .before .before .before .before .before .step) .given .1)) .on, (c .before .before .before .before .before .on-missing-std-table) .ensures .on) })
-
-enum-known-x : tie.Need-enum-known-x
-enum-known-x c = search needs
-
-on-expression-key-requires : tie.Need-on-expression-key-requires
-on-expression-key-requires c κs = search needs
-
-enum-told-4 : tie.Need-enum-told-4
-enum-told-4 c = search needs
-
-empty-key-requires : tie.Need-empty-key-requires
-empty-key-requires c κs = search needs
-
-back-requires : tie.Need-back-requires
-back-requires c κs = ((told _ _ _ _ _ ((c .before .before .before .before .before .before .before .before .before .before .next) .ensures) ((c .before .before .before .before .before .before .before .before .step) .given .1)) .good, omega (arith, (told _ _ _ _ _ ((c .before .before .before .before .before .before .before .before .before .before .next) .ensures) ((c .before .before .before .before .before .before .before .before .step) .given .1)) .on))
-
-enum-told-5 : tie.Need-enum-told-5
-enum-told-5 c = search needs
-
-on-expression-dot-requires : tie.Need-on-expression-dot-requires
-on-expression-dot-requires c κs = ((told _ _ _ _ _ ((c .before .before .before .before .before .before .before .next) .ensures) ((c .before .before .before .before .before .step) .given .1)) .good, record { from = (c .before .before .before .before .before .before .before .before .before .before .before .args) .c; good = (c .before .before .before .before .before .before .before .before .before .before .before .pre); took = (told _ _ _ _ _ ((c .before .before .before .before .before .before .before .next) .ensures) ((c .before .before .before .before .before .step) .given .1)); dot = document-dot ((c .before .before .before .before .before .step) .given .0 .0 .kind) _ ((c .before .before .before .in-document) .ensures) ((c .before .enum-told5) .given .1) })
-
-enum-told-6 : tie.Need-enum-told-6
-enum-told-6 c = search needs
-
-on-missing-expression-key-requires : tie.Need-on-missing-expression-key-requires
-on-missing-expression-key-requires c κs = (told _ _ _ _ _ ((c .before .before .before .before .before .before .before .before .next) .ensures) ((c .before .before .before .before .before .before .step) .given .1)) .good
-
-going-on-requires-3 : tie.Need-going-on-requires-3
-going-on-requires-3 c κs = search needs
-
-same-length-5 : tie.Need-same-length-5
-same-length-5 c = search needs
-
-same-length-6 : tie.Need-same-length-6
-same-length-6 c = search needs
-
-returns-4 : tie.Need-returns-4
-returns-4 c = stepped-as ((c .going-on3) .ensures) (record { g = onMissingExpressionKey ((c .before .before .before .before .before .before .before .before .before .before .before .before .step) .given .0 .0 .start) ((c .before .before .before .before .before .before .before .before .before .before .before .before .step) .given .0 .0 .end) (tokensAt ((c .before .before .before .before .before .before .before .before .before .before .before .before .before .before .before .before .before .before .args) .s .now) ((c .before .before .before .before .before .before .before .before .before .before .before .before .step) .given .0 .1 .0)); walk = nested-past (told _ _ _ _ _ ((c .before .before .before .before .before .before .before .before .before .before .before .before .before .before .next) .ensures) ((c .before .before .before .before .before .before .before .before .before .before .before .before .step) .given .1)) (nested-goes ((c .before .before .before .before .before .on-missing-expression-key) .ensures)); goes-on = λ q. (λ loop. document-at _ _ _ _ (told _ _ _ _ _ ((c .before .before .before .before .before .before .before .before .before .before .before .before .before .before .next) .ensures) ((c .before .before .before .before .before .before .before .before .before .before .before .before .step) .given .1)) _ _ ((c .before .before .before .before .before .before .before .before .before .before .in-document) .ensures) ((c .before .before .before .before .before .before .before .before .enum-told6) .given .1) ((c .before .before .before .before .before .before .before .before .before .before .before .before .before .before .before .before .before .before .args) .settings .levels) loop); ends = λ q. absurd (false≢true q); further = λ q. omega (arith, (told _ _ _ _ _ ((c .before .before .before .before .before .before .before .before .before .before .before .before .before .before .next) .ensures) ((c .before .before .before .before .before .before .before .before .before .before .before .before .step) .given .1)) .on, (c .before .before .before .before .before .on-missing-expression-key) .ensures .on) })
-
-enum-told-7 : tie.Need-enum-told-7
-enum-told-7 c = search needs
-
-emit-requires : tie.Need-emit-requires
-emit-requires c κs = search needs
-
-going-on-requires-4 : tie.Need-going-on-requires-4
-going-on-requires-4 c κs = search needs
-
-same-length-7 : tie.Need-same-length-7
-same-length-7 c = search needs
-
-returns-5 : tie.Need-returns-5
-returns-5 c =
-    stepped-as ((c .going-on4) .ensures) (record {
-      g = receiver.whitespace ((c .before .before .before .before .before .before .before .before .before .step) .given .0 .0 .start) ((c .before .before .before .before .before .before .before .before .before .step) .given .0 .0 .end) ▹ done (tokensAt ((c .before .before .before .before .before .before .before .before .before .before .before .before .before .before .before .args) .s .now) ((c .before .before .before .before .before .before .before .before .before .step) .given .0 .1 .0));
-      walk = nested-goes (goes-by _ _ _ _ _ _ (λ base q. ((first-item _ _ _ _ _ (c .before .before .before .emit .ensures _ _))) ∙ run-done _ _ _ _ _ _) ((told _ _ _ _ _ ((c .before .before .before .before .before .before .before .before .before .before .before .next) .ensures) ((c .before .before .before .before .before .before .before .before .before .step) .given .1)) .good) (omega (arith, (told _ _ _ _ _ ((c .before .before .before .before .before .before .before .before .before .before .before .next) .ensures) ((c .before .before .before .before .before .before .before .before .before .step) .given .1)) .on)) ((told _ _ _ _ _ ((c .before .before .before .before .before .before .before .before .before .before .before .next) .ensures) ((c .before .before .before .before .before .before .before .before .before .step) .given .1)) .base));
-      goes-on = λ q. (λ loop. document-at _ _ _ _ (told _ _ _ _ _ ((c .before .before .before .before .before .before .before .before .before .before .before .next) .ensures) ((c .before .before .before .before .before .before .before .before .before .step) .given .1)) _ _ ((c .before .before .before .before .before .before .before .in-document) .ensures) ((c .before .before .before .before .before .enum-told7) .given .1) ((c .before .before .before .before .before .before .before .before .before .before .before .before .before .before .before .args) .settings .levels) loop);
+returns-3 c =
+    stepped-as ((c .going-on) .ensures) (record {
+      g = keyless ((c .before .before .before .before .before .before .before .before .before .in-document) .result) ((c .before .before .before .before .before .before .before .before .before .before .before .step) .given .0 .0 .start) ((c .before .before .before .before .before .before .before .before .before .before .before .step) .given .0 .0 .end) (tokensAt ((c .before .before .before .before .before .before .before .before .before .before .before .before .before .before .before .before .before .args) .s .now) ((c .before .before .before .before .before .before .before .before .before .before .before .step) .given .0 .1 .0));
+      walk = nested-past (told _ _ _ _ _ ((c .before .before .before .before .before .before .before .before .before .before .before .before .before .next) .ensures) ((c .before .before .before .before .before .before .before .before .before .before .before .step) .given .1)) (nested-goes ((c .before .before .before .before .before .keyless-turn) .ensures));
+      goes-on = λ q loop. document-keyless _ _ _ _ (told _ _ _ _ _ ((c .before .before .before .before .before .before .before .before .before .before .before .before .before .next) .ensures) ((c .before .before .before .before .before .before .before .before .before .before .before .step) .given .1)) _ ((c .before .before .before .before .before .before .before .before .before .in-document) .ensures) ((c .before .before .before .before .before .before .before .before .match2) .keys5) ((c .before .before .before .before .before .before .before .before .before .before .before .before .before .before .before .before .before .args) .settings .levels) loop;
       ends = λ q. absurd (false≢true q);
-      further = λ q. omega (arith, (told _ _ _ _ _ ((c .before .before .before .before .before .before .before .before .before .before .before .next) .ensures) ((c .before .before .before .before .before .before .before .before .before .step) .given .1)) .on);
-    })
-
-enum-told-8 : tie.Need-enum-told-8
-enum-told-8 c = search needs
-
-emit-requires-2 : tie.Need-emit-requires-2
-emit-requires-2 c κs = search needs
-
-going-on-requires-5 : tie.Need-going-on-requires-5
-going-on-requires-5 c κs = search needs
-
-same-length-8 : tie.Need-same-length-8
-same-length-8 c = search needs
-
-returns-6 : tie.Need-returns-6
-returns-6 c =
-    stepped-as ((c .going-on5) .ensures) (record {
-      g = receiver.newline ((c .before .before .before .before .before .before .before .before .before .step) .given .0 .0 .start) ((c .before .before .before .before .before .before .before .before .before .step) .given .0 .0 .end) ▹ done (tokensAt ((c .before .before .before .before .before .before .before .before .before .before .before .before .before .before .before .args) .s .now) ((c .before .before .before .before .before .before .before .before .before .step) .given .0 .1 .0));
-      walk = nested-goes (goes-by _ _ _ _ _ _ (λ base q. ((first-item _ _ _ _ _ (c .before .before .before .emit2 .ensures _ _))) ∙ run-done _ _ _ _ _ _) ((told _ _ _ _ _ ((c .before .before .before .before .before .before .before .before .before .before .before .next) .ensures) ((c .before .before .before .before .before .before .before .before .before .step) .given .1)) .good) (omega (arith, (told _ _ _ _ _ ((c .before .before .before .before .before .before .before .before .before .before .before .next) .ensures) ((c .before .before .before .before .before .before .before .before .before .step) .given .1)) .on)) ((told _ _ _ _ _ ((c .before .before .before .before .before .before .before .before .before .before .before .next) .ensures) ((c .before .before .before .before .before .before .before .before .before .step) .given .1)) .base));
-      goes-on = λ q. (λ loop. document-at _ _ _ _ (told _ _ _ _ _ ((c .before .before .before .before .before .before .before .before .before .before .before .next) .ensures) ((c .before .before .before .before .before .before .before .before .before .step) .given .1)) _ _ ((c .before .before .before .before .before .before .before .in-document) .ensures) ((c .before .before .before .before .before .enum-told8) .given .1) ((c .before .before .before .before .before .before .before .before .before .before .before .before .before .before .before .args) .settings .levels) loop);
-      ends = λ q. absurd (false≢true q);
-      further = λ q. omega (arith, (told _ _ _ _ _ ((c .before .before .before .before .before .before .before .before .before .before .before .next) .ensures) ((c .before .before .before .before .before .before .before .before .before .step) .given .1)) .on);
-    })
-
-enum-told-9 : tie.Need-enum-told-9
-enum-told-9 c = search needs
-
-on-comment-requires : tie.Need-on-comment-requires
-on-comment-requires c κs = (told _ _ _ _ _ ((c .before .before .before .before .before .before .before .before .next) .ensures) ((c .before .before .before .before .before .before .step) .given .1)) .good
-
-going-on-requires-6 : tie.Need-going-on-requires-6
-going-on-requires-6 c κs = search needs
-
-same-length-9 : tie.Need-same-length-9
-same-length-9 c = search needs
-
-same-length-10 : tie.Need-same-length-10
-same-length-10 c = search needs
-
-returns-7 : tie.Need-returns-7
-returns-7 c = stepped-as ((c .going-on6) .ensures) (record { g = onComment ((c .before .before .before .before .before .before .before .before .before .before .before .before .step) .given .0 .0 .start) ((c .before .before .before .before .before .before .before .before .before .before .before .before .step) .given .0 .0 .end) (tokensAt ((c .before .before .before .before .before .before .before .before .before .before .before .before .before .before .before .before .before .before .args) .s .now) ((c .before .before .before .before .before .before .before .before .before .before .before .before .step) .given .0 .1 .0)); walk = nested-past (told _ _ _ _ _ ((c .before .before .before .before .before .before .before .before .before .before .before .before .before .before .next) .ensures) ((c .before .before .before .before .before .before .before .before .before .before .before .before .step) .given .1)) (nested-goes ((c .before .before .before .before .before .on-comment) .ensures)); goes-on = λ q. (λ loop. document-at _ _ _ _ (told _ _ _ _ _ ((c .before .before .before .before .before .before .before .before .before .before .before .before .before .before .next) .ensures) ((c .before .before .before .before .before .before .before .before .before .before .before .before .step) .given .1)) _ _ ((c .before .before .before .before .before .before .before .before .before .before .in-document) .ensures) ((c .before .before .before .before .before .before .before .before .enum-told9) .given .1) ((c .before .before .before .before .before .before .before .before .before .before .before .before .before .before .before .before .before .before .args) .settings .levels) loop); ends = λ q. absurd (false≢true q); further = λ q. omega (arith, (told _ _ _ _ _ ((c .before .before .before .before .before .before .before .before .before .before .before .before .before .before .next) .ensures) ((c .before .before .before .before .before .before .before .before .before .before .before .before .step) .given .1)) .on, (c .before .before .before .before .before .on-comment) .ensures .on) })
-
-enum-told-10 : tie.Need-enum-told-10
-enum-told-10 c = search needs
-
-ended-requires-2 : tie.Need-ended-requires-2
-ended-requires-2 c κs = search needs
-
-returns-8 : tie.Need-returns-8
-returns-8 c =
-    stepped-as ((c .ended2) .ensures) (record {
-      g = done (tokensAt ((c .before .before .before .before .before .before .before .before .before .before .before .args) .s .now) ((c .before .before .before .before .before .step) .given .0 .1 .0));
-      walk = nested-goes (goes-by _ _ _ _ _ _ (λ base q. run-done _ _ _ _ _ _) ((told _ _ _ _ _ ((c .before .before .before .before .before .before .before .next) .ensures) ((c .before .before .before .before .before .step) .given .1)) .good) (omega (arith, (told _ _ _ _ _ ((c .before .before .before .before .before .before .before .next) .ensures) ((c .before .before .before .before .before .step) .given .1)) .on)) ((told _ _ _ _ _ ((c .before .before .before .before .before .before .before .next) .ensures) ((c .before .before .before .before .before .step) .given .1)) .base));
-      goes-on = λ q. absurd (false≢true (sym q));
-      ends = λ q. (λ loop. document-at _ _ _ _ (told _ _ _ _ _ ((c .before .before .before .before .before .before .before .next) .ensures) ((c .before .before .before .before .before .step) .given .1)) _ _ ((c .before .before .before .in-document) .ensures) ((c .before .enum-told10) .given .1) ((c .before .before .before .before .before .before .before .before .before .before .before .args) .settings .levels) loop);
-      further = λ q. absurd (false≢true (sym q));
+      further = λ q. omega (arith, (told _ _ _ _ _ ((c .before .before .before .before .before .before .before .before .before .before .before .before .before .next) .ensures) ((c .before .before .before .before .before .before .before .before .before .before .before .step) .given .1)) .on, (c .before .before .before .before .before .keyless-turn) .ensures .on);
     })
 
 key-and-value-requires : tie.Need-key-and-value-requires
 key-and-value-requires c κs = (any-of (Met ((c .before .before .before .before .before .before .before .before .before .before .before .args) .settings .levels) ((c .before .before .before .before .before .before .before .before .before .before .before .args) .s .now) ((c .before .before .before .before .before .before .before .before .before .before .before .args) .c) (bufs ((c .before .before .before .before .before .before .before .before .before .before .before .args) .events .now) ((c .before .before .before .before .before .before .before .before .before .before .before .args) .errors .now) ((c .before .before .before .before .before .before .before .before .before .before .before .args) .m)) ((c .before .before .match2) .from) ((c .before .before .match2) .events) ((c .before .before .before .before .before .before .before .before .before .before .before .args) .errors .now) ((c .before .before .match2) .n) ((c .before .before .match2) .message) (length ((c .before .before .before .before .before .before .before .before .before .before .before .args) .events .now))) ((c .before .before .match2) .came) (λ w. meet ((c .before .before .before .before .before .before .before .before .before .before .before .args) .errors .now) (w .9) (w .10 ∙ w .4 .ensures .0) (w .11) (w .12 ∙ w .4 .ensures .1) (begun-key ((c .before .before .before .before .before .before .before .before .before .before .before .args) .settings .levels) (told _ _ _ _ _ ((c .before .before .before .before .before .before .before .next) .ensures) ((c .before .before .before .before .before .step) .given .1)) (w .1 .given .0 .0) (λ loop. document-at _ _ _ _ (told _ _ _ _ _ ((c .before .before .before .before .before .before .before .next) .ensures) ((c .before .before .before .before .before .step) .given .1)) _ _ ((c .before .before .before .in-document) .ensures) (w .1 .given .1) ((c .before .before .before .before .before .before .before .before .before .before .before .args) .settings .levels) loop) (λ all. w .4 .ensures .2 all _), w .4 .kept .1 .1 .1 .1 .0)) (λ w. meet ((c .before .before .before .before .before .before .before .before .before .before .before .args) .errors .now) (w .7) (w .8) (w .9) (w .10) (begun-equals ((c .before .before .before .before .before .before .before .before .before .before .before .args) .settings .levels) (told _ _ _ _ _ ((c .before .before .before .before .before .before .before .next) .ensures) ((c .before .before .before .before .before .step) .given .1)) (c .before .before .before .before .before .before .before .before .before .before .before .pre) (w .6 .ensures) _ (document-equals ((c .before .before .before .before .before .step) .given .0 .0 .kind) _ ((c .before .before .before .in-document) .ensures) (w .1 .given .1)) (λ loop. document-at _ _ _ _ (told _ _ _ _ _ ((c .before .before .before .before .before .before .before .next) .ensures) ((c .before .before .before .before .before .step) .given .1)) _ _ ((c .before .before .before .in-document) .ensures) (w .1 .given .1) ((c .before .before .before .before .before .before .before .before .before .before .before .args) .settings .levels) loop) (λ all. w .3 .ensures all _), w .3 .kept .0)) (λ w. meet ((c .before .before .before .before .before .before .before .before .before .before .before .args) .errors .now) (w .8) (w .9) (w .10) (w .11 ∙ w .3 .ensures .1) (begun-dot ((c .before .before .before .before .before .before .before .before .before .before .before .args) .settings .levels) (told _ _ _ _ _ ((c .before .before .before .before .before .before .before .next) .ensures) ((c .before .before .before .before .before .step) .given .1)) (c .before .before .before .before .before .before .before .before .before .before .before .pre) (w .3 .ensures .0) (document-dot ((c .before .before .before .before .before .step) .given .0 .0 .kind) _ ((c .before .before .before .in-document) .ensures) (w .1 .given .1)) (λ loop. document-at _ _ _ _ (told _ _ _ _ _ ((c .before .before .before .before .before .before .before .next) .ensures) ((c .before .before .before .before .before .step) .given .1)) _ _ ((c .before .before .before .in-document) .ensures) (w .1 .given .1) ((c .before .before .before .before .before .before .before .before .before .before .before .args) .settings .levels) loop) (λ all. w .3 .ensures .2 all _), w .3 .kept .1 .1 .1 .1 .0))) .0 .good
 
-same-length-11 : tie.Need-same-length-11
-same-length-11 c = (c .before .before .before .before .key-and-value) .kept .1 .1 .1 .1 .1 .0 ∙ (any-of (Met ((c .before .before .before .before .before .before .before .before .before .before .before .before .before .before .before .before .args) .settings .levels) ((c .before .before .before .before .before .before .before .before .before .before .before .before .before .before .before .before .args) .s .now) ((c .before .before .before .before .before .before .before .before .before .before .before .before .before .before .before .before .args) .c) (bufs ((c .before .before .before .before .before .before .before .before .before .before .before .before .before .before .before .before .args) .events .now) ((c .before .before .before .before .before .before .before .before .before .before .before .before .before .before .before .before .args) .errors .now) ((c .before .before .before .before .before .before .before .before .before .before .before .before .before .before .before .before .args) .m)) ((c .before .before .before .before .before .before .before .match2) .from) ((c .before .before .before .before .before .before .before .match2) .events) ((c .before .before .before .before .before .before .before .before .before .before .before .before .before .before .before .before .args) .errors .now) ((c .before .before .before .before .before .before .before .match2) .n) ((c .before .before .before .before .before .before .before .match2) .message) (length ((c .before .before .before .before .before .before .before .before .before .before .before .before .before .before .before .before .args) .events .now))) ((c .before .before .before .before .before .before .before .match2) .came) (λ w. meet ((c .before .before .before .before .before .before .before .before .before .before .before .before .before .before .before .before .args) .errors .now) (w .9) (w .10 ∙ w .4 .ensures .0) (w .11) (w .12 ∙ w .4 .ensures .1) (begun-key ((c .before .before .before .before .before .before .before .before .before .before .before .before .before .before .before .before .args) .settings .levels) (told _ _ _ _ _ ((c .before .before .before .before .before .before .before .before .before .before .before .before .next) .ensures) ((c .before .before .before .before .before .before .before .before .before .before .step) .given .1)) (w .1 .given .0 .0) (λ loop. document-at _ _ _ _ (told _ _ _ _ _ ((c .before .before .before .before .before .before .before .before .before .before .before .before .next) .ensures) ((c .before .before .before .before .before .before .before .before .before .before .step) .given .1)) _ _ ((c .before .before .before .before .before .before .before .before .in-document) .ensures) (w .1 .given .1) ((c .before .before .before .before .before .before .before .before .before .before .before .before .before .before .before .before .args) .settings .levels) loop) (λ all. w .4 .ensures .2 all _), w .4 .kept .1 .1 .1 .1 .0)) (λ w. meet ((c .before .before .before .before .before .before .before .before .before .before .before .before .before .before .before .before .args) .errors .now) (w .7) (w .8) (w .9) (w .10) (begun-equals ((c .before .before .before .before .before .before .before .before .before .before .before .before .before .before .before .before .args) .settings .levels) (told _ _ _ _ _ ((c .before .before .before .before .before .before .before .before .before .before .before .before .next) .ensures) ((c .before .before .before .before .before .before .before .before .before .before .step) .given .1)) (c .before .before .before .before .before .before .before .before .before .before .before .before .before .before .before .before .pre) (w .6 .ensures) _ (document-equals ((c .before .before .before .before .before .before .before .before .before .before .step) .given .0 .0 .kind) _ ((c .before .before .before .before .before .before .before .before .in-document) .ensures) (w .1 .given .1)) (λ loop. document-at _ _ _ _ (told _ _ _ _ _ ((c .before .before .before .before .before .before .before .before .before .before .before .before .next) .ensures) ((c .before .before .before .before .before .before .before .before .before .before .step) .given .1)) _ _ ((c .before .before .before .before .before .before .before .before .in-document) .ensures) (w .1 .given .1) ((c .before .before .before .before .before .before .before .before .before .before .before .before .before .before .before .before .args) .settings .levels) loop) (λ all. w .3 .ensures all _), w .3 .kept .0)) (λ w. meet ((c .before .before .before .before .before .before .before .before .before .before .before .before .before .before .before .before .args) .errors .now) (w .8) (w .9) (w .10) (w .11 ∙ w .3 .ensures .1) (begun-dot ((c .before .before .before .before .before .before .before .before .before .before .before .before .before .before .before .before .args) .settings .levels) (told _ _ _ _ _ ((c .before .before .before .before .before .before .before .before .before .before .before .before .next) .ensures) ((c .before .before .before .before .before .before .before .before .before .before .step) .given .1)) (c .before .before .before .before .before .before .before .before .before .before .before .before .before .before .before .before .pre) (w .3 .ensures .0) (document-dot ((c .before .before .before .before .before .before .before .before .before .before .step) .given .0 .0 .kind) _ ((c .before .before .before .before .before .before .before .before .in-document) .ensures) (w .1 .given .1)) (λ loop. document-at _ _ _ _ (told _ _ _ _ _ ((c .before .before .before .before .before .before .before .before .before .before .before .before .next) .ensures) ((c .before .before .before .before .before .before .before .before .before .before .step) .given .1)) _ _ ((c .before .before .before .before .before .before .before .before .in-document) .ensures) (w .1 .given .1) ((c .before .before .before .before .before .before .before .before .before .before .before .before .before .before .before .before .args) .settings .levels) loop) (λ all. w .3 .ensures .2 all _), w .3 .kept .1 .1 .1 .1 .0))) .1
+same-length-3 : tie.Need-same-length-3
+same-length-3 c = (c .before .before .before .before .key-and-value) .kept .1 .1 .1 .1 .1 .0 ∙ (any-of (Met ((c .before .before .before .before .before .before .before .before .before .before .before .before .before .before .before .before .args) .settings .levels) ((c .before .before .before .before .before .before .before .before .before .before .before .before .before .before .before .before .args) .s .now) ((c .before .before .before .before .before .before .before .before .before .before .before .before .before .before .before .before .args) .c) (bufs ((c .before .before .before .before .before .before .before .before .before .before .before .before .before .before .before .before .args) .events .now) ((c .before .before .before .before .before .before .before .before .before .before .before .before .before .before .before .before .args) .errors .now) ((c .before .before .before .before .before .before .before .before .before .before .before .before .before .before .before .before .args) .m)) ((c .before .before .before .before .before .before .before .match2) .from) ((c .before .before .before .before .before .before .before .match2) .events) ((c .before .before .before .before .before .before .before .before .before .before .before .before .before .before .before .before .args) .errors .now) ((c .before .before .before .before .before .before .before .match2) .n) ((c .before .before .before .before .before .before .before .match2) .message) (length ((c .before .before .before .before .before .before .before .before .before .before .before .before .before .before .before .before .args) .events .now))) ((c .before .before .before .before .before .before .before .match2) .came) (λ w. meet ((c .before .before .before .before .before .before .before .before .before .before .before .before .before .before .before .before .args) .errors .now) (w .9) (w .10 ∙ w .4 .ensures .0) (w .11) (w .12 ∙ w .4 .ensures .1) (begun-key ((c .before .before .before .before .before .before .before .before .before .before .before .before .before .before .before .before .args) .settings .levels) (told _ _ _ _ _ ((c .before .before .before .before .before .before .before .before .before .before .before .before .next) .ensures) ((c .before .before .before .before .before .before .before .before .before .before .step) .given .1)) (w .1 .given .0 .0) (λ loop. document-at _ _ _ _ (told _ _ _ _ _ ((c .before .before .before .before .before .before .before .before .before .before .before .before .next) .ensures) ((c .before .before .before .before .before .before .before .before .before .before .step) .given .1)) _ _ ((c .before .before .before .before .before .before .before .before .in-document) .ensures) (w .1 .given .1) ((c .before .before .before .before .before .before .before .before .before .before .before .before .before .before .before .before .args) .settings .levels) loop) (λ all. w .4 .ensures .2 all _), w .4 .kept .1 .1 .1 .1 .0)) (λ w. meet ((c .before .before .before .before .before .before .before .before .before .before .before .before .before .before .before .before .args) .errors .now) (w .7) (w .8) (w .9) (w .10) (begun-equals ((c .before .before .before .before .before .before .before .before .before .before .before .before .before .before .before .before .args) .settings .levels) (told _ _ _ _ _ ((c .before .before .before .before .before .before .before .before .before .before .before .before .next) .ensures) ((c .before .before .before .before .before .before .before .before .before .before .step) .given .1)) (c .before .before .before .before .before .before .before .before .before .before .before .before .before .before .before .before .pre) (w .6 .ensures) _ (document-equals ((c .before .before .before .before .before .before .before .before .before .before .step) .given .0 .0 .kind) _ ((c .before .before .before .before .before .before .before .before .in-document) .ensures) (w .1 .given .1)) (λ loop. document-at _ _ _ _ (told _ _ _ _ _ ((c .before .before .before .before .before .before .before .before .before .before .before .before .next) .ensures) ((c .before .before .before .before .before .before .before .before .before .before .step) .given .1)) _ _ ((c .before .before .before .before .before .before .before .before .in-document) .ensures) (w .1 .given .1) ((c .before .before .before .before .before .before .before .before .before .before .before .before .before .before .before .before .args) .settings .levels) loop) (λ all. w .3 .ensures all _), w .3 .kept .0)) (λ w. meet ((c .before .before .before .before .before .before .before .before .before .before .before .before .before .before .before .before .args) .errors .now) (w .8) (w .9) (w .10) (w .11 ∙ w .3 .ensures .1) (begun-dot ((c .before .before .before .before .before .before .before .before .before .before .before .before .before .before .before .before .args) .settings .levels) (told _ _ _ _ _ ((c .before .before .before .before .before .before .before .before .before .before .before .before .next) .ensures) ((c .before .before .before .before .before .before .before .before .before .before .step) .given .1)) (c .before .before .before .before .before .before .before .before .before .before .before .before .before .before .before .before .pre) (w .3 .ensures .0) (document-dot ((c .before .before .before .before .before .before .before .before .before .before .step) .given .0 .0 .kind) _ ((c .before .before .before .before .before .before .before .before .in-document) .ensures) (w .1 .given .1)) (λ loop. document-at _ _ _ _ (told _ _ _ _ _ ((c .before .before .before .before .before .before .before .before .before .before .before .before .next) .ensures) ((c .before .before .before .before .before .before .before .before .before .before .step) .given .1)) _ _ ((c .before .before .before .before .before .before .before .before .in-document) .ensures) (w .1 .given .1) ((c .before .before .before .before .before .before .before .before .before .before .before .before .before .before .before .before .args) .settings .levels) loop) (λ all. w .3 .ensures .2 all _), w .3 .kept .1 .1 .1 .1 .0))) .1
 
-same-length-12 : tie.Need-same-length-12
-same-length-12 c = (c .before .before .before .before .key-and-value) .kept .1 .1 .1 .1 .1 .1 .0
+same-length-4 : tie.Need-same-length-4
+same-length-4 c = (c .before .before .before .before .key-and-value) .kept .1 .1 .1 .1 .1 .1 .0
 
-returns-9 : tie.Need-returns-9
-returns-9 c =
+returns-4 : tie.Need-returns-4
+returns-4 c =
     let j : Met ((c .before .before .before .before .before .before .before .before .before .before .before .before .before .before .before .before .args) .settings .levels) ((c .before .before .before .before .before .before .before .before .before .before .before .before .before .before .before .before .args) .s .now) ((c .before .before .before .before .before .before .before .before .before .before .before .before .before .before .before .before .args) .c) (bufs ((c .before .before .before .before .before .before .before .before .before .before .before .before .before .before .before .before .args) .events .now) ((c .before .before .before .before .before .before .before .before .before .before .before .before .before .before .before .before .args) .errors .now) ((c .before .before .before .before .before .before .before .before .before .before .before .before .before .before .before .before .args) .m)) ((c .before .before .before .before .before .before .before .match2) .from) ((c .before .before .before .before .before .before .before .match2) .events) ((c .before .before .before .before .before .before .before .before .before .before .before .before .before .before .before .before .args) .errors .now) ((c .before .before .before .before .before .before .before .match2) .n) ((c .before .before .before .before .before .before .before .match2) .message) (length ((c .before .before .before .before .before .before .before .before .before .before .before .before .before .before .before .before .args) .events .now)) = (any-of (Met ((c .before .before .before .before .before .before .before .before .before .before .before .before .before .before .before .before .args) .settings .levels) ((c .before .before .before .before .before .before .before .before .before .before .before .before .before .before .before .before .args) .s .now) ((c .before .before .before .before .before .before .before .before .before .before .before .before .before .before .before .before .args) .c) (bufs ((c .before .before .before .before .before .before .before .before .before .before .before .before .before .before .before .before .args) .events .now) ((c .before .before .before .before .before .before .before .before .before .before .before .before .before .before .before .before .args) .errors .now) ((c .before .before .before .before .before .before .before .before .before .before .before .before .before .before .before .before .args) .m)) ((c .before .before .before .before .before .before .before .match2) .from) ((c .before .before .before .before .before .before .before .match2) .events) ((c .before .before .before .before .before .before .before .before .before .before .before .before .before .before .before .before .args) .errors .now) ((c .before .before .before .before .before .before .before .match2) .n) ((c .before .before .before .before .before .before .before .match2) .message) (length ((c .before .before .before .before .before .before .before .before .before .before .before .before .before .before .before .before .args) .events .now))) ((c .before .before .before .before .before .before .before .match2) .came) (λ w. meet ((c .before .before .before .before .before .before .before .before .before .before .before .before .before .before .before .before .args) .errors .now) (w .9) (w .10 ∙ w .4 .ensures .0) (w .11) (w .12 ∙ w .4 .ensures .1) (begun-key ((c .before .before .before .before .before .before .before .before .before .before .before .before .before .before .before .before .args) .settings .levels) (told _ _ _ _ _ ((c .before .before .before .before .before .before .before .before .before .before .before .before .next) .ensures) ((c .before .before .before .before .before .before .before .before .before .before .step) .given .1)) (w .1 .given .0 .0) (λ loop. document-at _ _ _ _ (told _ _ _ _ _ ((c .before .before .before .before .before .before .before .before .before .before .before .before .next) .ensures) ((c .before .before .before .before .before .before .before .before .before .before .step) .given .1)) _ _ ((c .before .before .before .before .before .before .before .before .in-document) .ensures) (w .1 .given .1) ((c .before .before .before .before .before .before .before .before .before .before .before .before .before .before .before .before .args) .settings .levels) loop) (λ all. w .4 .ensures .2 all _), w .4 .kept .1 .1 .1 .1 .0)) (λ w. meet ((c .before .before .before .before .before .before .before .before .before .before .before .before .before .before .before .before .args) .errors .now) (w .7) (w .8) (w .9) (w .10) (begun-equals ((c .before .before .before .before .before .before .before .before .before .before .before .before .before .before .before .before .args) .settings .levels) (told _ _ _ _ _ ((c .before .before .before .before .before .before .before .before .before .before .before .before .next) .ensures) ((c .before .before .before .before .before .before .before .before .before .before .step) .given .1)) (c .before .before .before .before .before .before .before .before .before .before .before .before .before .before .before .before .pre) (w .6 .ensures) _ (document-equals ((c .before .before .before .before .before .before .before .before .before .before .step) .given .0 .0 .kind) _ ((c .before .before .before .before .before .before .before .before .in-document) .ensures) (w .1 .given .1)) (λ loop. document-at _ _ _ _ (told _ _ _ _ _ ((c .before .before .before .before .before .before .before .before .before .before .before .before .next) .ensures) ((c .before .before .before .before .before .before .before .before .before .before .step) .given .1)) _ _ ((c .before .before .before .before .before .before .before .before .in-document) .ensures) (w .1 .given .1) ((c .before .before .before .before .before .before .before .before .before .before .before .before .before .before .before .before .args) .settings .levels) loop) (λ all. w .3 .ensures all _), w .3 .kept .0)) (λ w. meet ((c .before .before .before .before .before .before .before .before .before .before .before .before .before .before .before .before .args) .errors .now) (w .8) (w .9) (w .10) (w .11 ∙ w .3 .ensures .1) (begun-dot ((c .before .before .before .before .before .before .before .before .before .before .before .before .before .before .before .before .args) .settings .levels) (told _ _ _ _ _ ((c .before .before .before .before .before .before .before .before .before .before .before .before .next) .ensures) ((c .before .before .before .before .before .before .before .before .before .before .step) .given .1)) (c .before .before .before .before .before .before .before .before .before .before .before .before .before .before .before .before .pre) (w .3 .ensures .0) (document-dot ((c .before .before .before .before .before .before .before .before .before .before .step) .given .0 .0 .kind) _ ((c .before .before .before .before .before .before .before .before .in-document) .ensures) (w .1 .given .1)) (λ loop. document-at _ _ _ _ (told _ _ _ _ _ ((c .before .before .before .before .before .before .before .before .before .before .before .before .next) .ensures) ((c .before .before .before .before .before .before .before .before .before .before .step) .given .1)) _ _ ((c .before .before .before .before .before .before .before .before .in-document) .ensures) (w .1 .given .1) ((c .before .before .before .before .before .before .before .before .before .before .before .before .before .before .before .before .args) .settings .levels) loop) (λ all. w .3 .ensures .2 all _), w .3 .kept .1 .1 .1 .1 .0))) in
     record { g = j .0 .g; walk = j .0 .walk _ _ _ ((c .before .before .before .before .key-and-value) .ensures); goes-on = λ q. j .0 .turn; ends = λ q. absurd (false≢true q); further = λ q. j .0 .further _ _ _ ((c .before .before .before .before .key-and-value) .ensures) }
 
@@ -221,51 +125,22 @@ document-turn-spec =
     ended-requires
     returns
     in-document-requires
+    enum-known-x
+    on-expression-key-requires
     enum-told-2
-    on-table-requires
+    empty-key-requires
+    back-requires
+    enum-told-3
+    on-expression-dot-requires
+    enum-told-4
+    ended-requires-2
+    returns-2
+    keyless-turn-requires
     going-on-requires
     same-length
     same-length-2
-    returns-2
-    enum-told-3
-    on-missing-std-table-requires
-    going-on-requires-2
+    returns-3
+    key-and-value-requires
     same-length-3
     same-length-4
-    returns-3
-    enum-known-x
-    on-expression-key-requires
-    enum-told-4
-    empty-key-requires
-    back-requires
-    enum-told-5
-    on-expression-dot-requires
-    enum-told-6
-    on-missing-expression-key-requires
-    going-on-requires-3
-    same-length-5
-    same-length-6
-    returns-4
-    enum-told-7
-    emit-requires
-    going-on-requires-4
-    same-length-7
-    returns-5
-    enum-told-8
-    emit-requires-2
-    going-on-requires-5
-    same-length-8
-    returns-6
-    enum-told-9
-    on-comment-requires
-    going-on-requires-6
-    same-length-9
-    same-length-10
-    returns-7
-    enum-told-10
-    ended-requires-2
-    returns-8
-    key-and-value-requires
-    same-length-11
-    same-length-12
-    returns-9)
+    returns-4)

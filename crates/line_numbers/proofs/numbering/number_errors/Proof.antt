@@ -1,36 +1,28 @@
 -- By the room.
 -- Made by ./proofs from Proof.tmpl: change that.
+use mathlib.Core.Path.{ap, _∙_}
 use native.Mathlib.Omega.{arith}
-use borrow.Author.Tests.{lt-ltb, le-ltb}
+use Prim.Native.Nat.{ℕ}
+use Rattle.token.specs.Tokens.{allTokens}
+use Rattle.line_numbers.specs.Numbering.{numberedFirst}
+use Rattle.line_numbers.proofs.NumberingLaws.{as-stored}
 use borrow.Author.Needs.{needs}
 use Rattle.line_numbers.proofs.numbering.number_errors.Statement.{statement}
 use Rattle.line_numbers.proofs.numbering.number_errors.Tie as tie
 
 number-first-requires : tie.Need-number-first-requires
-number-first-requires c κs = ((c .before .before .before .before .pre) .0, ((c .before .before .before .before .pre) .1 .0, ((c .before .before .before .before .pre) .1 .1, omega arith)))
-
-number-first-requires-2 : tie.Need-number-first-requires-2
-number-first-requires-2 c κs = ((c .before .before .before .before .pre) .0, ((c .before .before .before .before .pre) .1 .0, ((c .before .before .before .before .pre) .1 .1, omega arith)))
+number-first-requires c κs = ((c .before .before .before .before .pre) .0, ((c .before .before .before .before .pre) .1 .0, ((c .before .before .before .before .pre) .1 .1, omega (arith, (as-stored _ _ _ (λ u. u .taken) (λ u. u .left) ((c .before .if1) .came)) .1))))
 
 same-length : tie.Need-same-length
 same-length c = search needs
 
 returns : tie.Need-returns
-returns c = rw (lt-ltb _ _ ((c .before .before .before .before .if1) .taken)) ((c .before .before .number-first) .ensures)
-
-same-length-2 : tie.Need-same-length-2
-same-length-2 c = search needs
-
-returns-2 : tie.Need-returns-2
-returns-2 c = rw (le-ltb _ _ ((c .before .before .before .before .if1) .left)) ((c .before .before .number-first2) .ensures)
+returns c = (c .before .before .number-first) .ensures ∙ ap (λ (k : ℕ). numberedFirst ((c .before .before .before .before .before .before .before .args) .mode) (allTokens ((c .before .before .before .before .before .before .before .args) .s .now) ((c .before .before .before .before .before .before .before .args) .base)) k ((c .before .before .before .before .before .before .before .args) .errors .now)) ((as-stored _ _ _ (λ u. u .taken) (λ u. u .left) ((c .before .before .before .before .if1) .came)) .0)
 
 pub number-errors-spec : {M : Type 1} → statement M
 number-errors-spec =
     tie.close
     (tie.spec
     number-first-requires
-    number-first-requires-2
     same-length
-    returns
-    same-length-2
-    returns-2)
+    returns)

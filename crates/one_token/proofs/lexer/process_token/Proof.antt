@@ -14,11 +14,11 @@ shared-slice-read-start-of c = search needs
 start-of-requires : tie.Need-start-of-requires
 start-of-requires c κs = search needs
 
+add-end : tie.Need-add-end
+add-end c = search needs
+
 enum-told : tie.Need-enum-told
 enum-told c = search needs
-
-add-piece : tie.Need-add-piece
-add-piece c = search needs
 
 piece-requires : tie.Need-piece-requires
 piece-requires c κs = search needs
@@ -26,17 +26,11 @@ piece-requires c κs = search needs
 enum-told-2 : tie.Need-enum-told-2
 enum-told-2 c = search needs
 
-add-piece-2 : tie.Need-add-piece-2
-add-piece-2 c = search needs
-
 piece-requires-2 : tie.Need-piece-requires-2
 piece-requires-2 c κs = search needs
 
 enum-told-3 : tie.Need-enum-told-3
 enum-told-3 c = search needs
-
-add-piece-3 : tie.Need-add-piece-3
-add-piece-3 c = search needs
 
 piece-requires-3 : tie.Need-piece-requires-3
 piece-requires-3 c κs = search needs
@@ -44,17 +38,11 @@ piece-requires-3 c κs = search needs
 enum-told-4 : tie.Need-enum-told-4
 enum-told-4 c = search needs
 
-add-piece-4 : tie.Need-add-piece-4
-add-piece-4 c = search needs
-
 piece-requires-4 : tie.Need-piece-requires-4
 piece-requires-4 c κs = search needs
 
 enum-told-5 : tie.Need-enum-told-5
 enum-told-5 c = search needs
-
-add-piece-5 : tie.Need-add-piece-5
-add-piece-5 c = search needs
 
 piece-requires-5 : tie.Need-piece-requires-5
 piece-requires-5 c κs = search needs
@@ -62,26 +50,17 @@ piece-requires-5 c κs = search needs
 enum-told-6 : tie.Need-enum-told-6
 enum-told-6 c = search needs
 
-add-piece-6 : tie.Need-add-piece-6
-add-piece-6 c = search needs
-
 piece-requires-6 : tie.Need-piece-requires-6
 piece-requires-6 c κs = search needs
 
 enum-told-7 : tie.Need-enum-told-7
 enum-told-7 c = search needs
 
-add-piece-7 : tie.Need-add-piece-7
-add-piece-7 c = search needs
-
 piece-requires-7 : tie.Need-piece-requires-7
 piece-requires-7 c κs = search needs
 
 enum-told-8 : tie.Need-enum-told-8
 enum-told-8 c = search needs
-
-add-lex-whitespace : tie.Need-add-lex-whitespace
-add-lex-whitespace c = search needs
 
 lex-whitespace-requires : tie.Need-lex-whitespace-requires
 lex-whitespace-requires c κs = omega (arith, (c .before .before .before .before .before .pre))
@@ -92,9 +71,6 @@ piece-requires-8 c κs = search needs
 enum-told-9 : tie.Need-enum-told-9
 enum-told-9 c = search needs
 
-add-lex-comment : tie.Need-add-lex-comment
-add-lex-comment c = search needs
-
 lex-comment-requires : tie.Need-lex-comment-requires
 lex-comment-requires c κs = omega (arith, (c .before .before .before .before .before .pre))
 
@@ -104,9 +80,6 @@ piece-requires-9 c κs = search needs
 enum-told-10 : tie.Need-enum-told-10
 enum-told-10 c = search needs
 
-add-lex-crlf : tie.Need-add-lex-crlf
-add-lex-crlf c = search needs
-
 lex-crlf-requires : tie.Need-lex-crlf-requires
 lex-crlf-requires c κs = omega (arith, (c .before .before .before .before .before .pre))
 
@@ -115,9 +88,6 @@ piece-requires-10 c κs = search needs
 
 enum-told-11 : tie.Need-enum-told-11
 enum-told-11 c = search needs
-
-add-piece-8 : tie.Need-add-piece-8
-add-piece-8 c = search needs
 
 piece-requires-11 : tie.Need-piece-requires-11
 piece-requires-11 c κs = search needs
@@ -140,9 +110,6 @@ piece-requires-12 c κs = search needs
 returns : tie.Need-returns
 returns c =
     token-is ((c .before .before .before .before .before .before .before .before .before .args) .text .now) ((c .before .before .before .before .before .before .before .before .before .args) .at) _ _ _ _ _ (sym ((c .before .before .before .before .before .before .start-of) .ensures) ∙ (c .before .before .before .before .enum-told12) .given .1) (ml-literal-is ((c .before .before .before .before .before .before .before .before .before .args) .text .now) ((c .before .before .before .before .before .before .before .before .before .args) .at) (c .before .before .before .before .before .before .before .before .before .pre) (sym ((c .before .before .before .starts-three) .ensures) ∙ (c .before .before .if1) .taken)) (omega (arith, (c .before .lex-ml-literal-string) .ensures .is)) ((c .before .lex-ml-literal-string) .ensures .within) ((c .piece12) .ensures)
-
-add-lex-literal-string : tie.Need-add-lex-literal-string
-add-lex-literal-string c = search needs
 
 lex-literal-string-requires : tie.Need-lex-literal-string-requires
 lex-literal-string-requires c κs = omega (arith, (c .before .before .before .before .before .before .before .pre))
@@ -169,9 +136,6 @@ returns-2 : tie.Need-returns-2
 returns-2 c =
     token-is ((c .before .before .before .before .before .before .before .before .before .args) .text .now) ((c .before .before .before .before .before .before .before .before .before .args) .at) _ _ _ _ _ (sym ((c .before .before .before .before .before .before .start-of) .ensures) ∙ (c .before .before .before .before .enum-told13) .given .1) (ml-basic-is ((c .before .before .before .before .before .before .before .before .before .args) .text .now) ((c .before .before .before .before .before .before .before .before .before .args) .at) (c .before .before .before .before .before .before .before .before .before .pre) (sym ((c .before .before .before .starts-three2) .ensures) ∙ (c .before .before .if2) .taken)) (omega (arith, (c .before .lex-ml-basic-string) .ensures .is)) ((c .before .lex-ml-basic-string) .ensures .within) ((c .piece14) .ensures)
 
-add-lex-basic-string : tie.Need-add-lex-basic-string
-add-lex-basic-string c = search needs
-
 lex-basic-string-requires : tie.Need-lex-basic-string-requires
 lex-basic-string-requires c κs = omega (arith, (c .before .before .before .before .before .before .before .pre))
 
@@ -180,9 +144,6 @@ piece-requires-15 c κs = search needs
 
 enum-told-14 : tie.Need-enum-told-14
 enum-told-14 c = search needs
-
-add-lex-atom : tie.Need-add-lex-atom
-add-lex-atom c = search needs
 
 lex-atom-requires : tie.Need-lex-atom-requires
 lex-atom-requires c κs = omega (arith, (c .before .before .before .before .before .pre))
@@ -240,41 +201,31 @@ process-token-spec =
     (tie.spec
     shared-slice-read-start-of
     start-of-requires
+    add-end
     enum-told
-    add-piece
     piece-requires
     enum-told-2
-    add-piece-2
     piece-requires-2
     enum-told-3
-    add-piece-3
     piece-requires-3
     enum-told-4
-    add-piece-4
     piece-requires-4
     enum-told-5
-    add-piece-5
     piece-requires-5
     enum-told-6
-    add-piece-6
     piece-requires-6
     enum-told-7
-    add-piece-7
     piece-requires-7
     enum-told-8
-    add-lex-whitespace
     lex-whitespace-requires
     piece-requires-8
     enum-told-9
-    add-lex-comment
     lex-comment-requires
     piece-requires-9
     enum-told-10
-    add-lex-crlf
     lex-crlf-requires
     piece-requires-10
     enum-told-11
-    add-piece-8
     piece-requires-11
     enum-told-12
     starts-three-requires
@@ -282,7 +233,6 @@ process-token-spec =
     lex-ml-literal-string-requires
     piece-requires-12
     returns
-    add-lex-literal-string
     lex-literal-string-requires
     piece-requires-13
     enum-told-13
@@ -291,11 +241,9 @@ process-token-spec =
     lex-ml-basic-string-requires
     piece-requires-14
     returns-2
-    add-lex-basic-string
     lex-basic-string-requires
     piece-requires-15
     enum-told-14
-    add-lex-atom
     lex-atom-requires
     piece-requires-16
     returns-3

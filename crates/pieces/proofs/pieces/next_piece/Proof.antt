@@ -3,7 +3,7 @@
 use native.Mathlib.Omega.{arith}
 use mathlib.Core.Path.{sym, _∙_}
 use Prim.Native.Nat.{_-_}
-use Rattle.pieces.proofs.PieceLaws.{event-held, Seeking, seeking-begun, seeking-blank, seeking-sound, found-wrong, found-skipped, found-none}
+use Rattle.pieces.proofs.PieceLaws.{event-held, Seeking, seeking-begun, seeking-past, found-wrong, found-skipped, found-none}
 use borrow.Author.Needs.{needs}
 use Rattle.pieces.proofs.pieces.next_piece.Statement.{statement}
 use Rattle.pieces.proofs.pieces.next_piece.Tie as tie
@@ -53,30 +53,6 @@ skip-on-requires c κs = ((c .before .before .before .before .before .before .be
 returns : tie.Need-returns Inv-loop μ-loop
 returns c = found-skipped ((c .before .before .before .before .before .before .before .loop) .inv) _ ((c .before .before .before .before .before .before .loop-test) .taken) ((sym ((c .before .before .before .before .before .sort-at) .ensures) ∙ (c .before .before .before .enum-told) .given .1)) ((c .skip-on) .ensures)
 
-enum-told-2 : tie.Need-enum-told-2 Inv-loop μ-loop
-enum-told-2 c = search needs
-
-add-at : tie.Need-add-at Inv-loop μ-loop
-add-at c = search needs
-
-loop-less : tie.Need-loop-less Inv-loop μ-loop
-loop-less c = search needs
-
-loop-again : tie.Need-loop-again Inv-loop μ-loop
-loop-again c = seeking-blank ((c .before .before .before .before .loop) .inv) ((c .before .before .before .loop-test) .taken) ((sym ((c .before .before .sort-at) .ensures) ∙ (c .enum-told2) .given .1))
-
-enum-told-3 : tie.Need-enum-told-3 Inv-loop μ-loop
-enum-told-3 c = search needs
-
-add-at-2 : tie.Need-add-at-2 Inv-loop μ-loop
-add-at-2 c = search needs
-
-loop-less-2 : tie.Need-loop-less-2 Inv-loop μ-loop
-loop-less-2 c = search needs
-
-loop-again-2 : tie.Need-loop-again-2 Inv-loop μ-loop
-loop-again-2 c = seeking-sound ((c .before .before .before .before .loop) .inv) ((c .before .before .before .loop-test) .taken) ((sym ((c .before .before .sort-at) .ensures) ∙ (c .enum-told3) .given .1))
-
 enum-known-sort : tie.Need-enum-known-sort Inv-loop μ-loop
 enum-known-sort c = search needs
 
@@ -104,6 +80,15 @@ add-t20 c = search needs
 returns-2 : tie.Need-returns-2 Inv-loop μ-loop
 returns-2 c = found-wrong ((c .before .before .before .before .before .before .before .loop) .inv) _ ((c .before .before .before .before .before .before .loop-test) .taken) (sym ((c .before .before .before .before .before .sort-at) .ensures) ∙ (c .before .before .before .sort) .given .1)
 
+add-at : tie.Need-add-at Inv-loop μ-loop
+add-at c = search needs
+
+loop-less : tie.Need-loop-less Inv-loop μ-loop
+loop-less c = search needs
+
+loop-again : tie.Need-loop-again Inv-loop μ-loop
+loop-again c = seeking-past ((c .before .before .before .loop) .inv) _ ((c .before .before .loop-test) .taken) (sym ((c .before .sort-at) .ensures)) ((c .match) .keys3)
+
 returns-3 : tie.Need-returns-3 Inv-loop μ-loop
 returns-3 c = found-none ((c .before .loop) .inv) ((c .loop-test) .left)
 
@@ -126,14 +111,6 @@ next-piece-spec =
     add-skip-on
     skip-on-requires
     returns
-    enum-told-2
-    add-at
-    loop-less
-    loop-again
-    enum-told-3
-    add-at-2
-    loop-less-2
-    loop-again-2
     enum-known-sort
     add-start-2
     mul-start-2
@@ -143,4 +120,7 @@ next-piece-spec =
     shared-slice-read-end-2
     add-t20
     returns-2
+    add-at
+    loop-less
+    loop-again
     returns-3)

@@ -3,7 +3,7 @@
 use native.Mathlib.Omega.{arith}
 use mathlib.Core.Path.{sym, _∙_}
 use Prim.Native.Nat.{_-_}
-use Rattle.pieces.proofs.PieceLaws.{event-held, Skipping, skipping-begun, skipping-more, skipping-blank, skipped-sound, skipped-wrong, skipped-end}
+use Rattle.pieces.proofs.PieceLaws.{event-held, Skipping, skipping-begun, skipping-more, skipping-blank, skipped-over, skipped-end}
 use borrow.Author.Needs.{needs}
 use Rattle.pieces.proofs.pieces.skip_on.Statement.{statement}
 use Rattle.pieces.proofs.pieces.skip_on.Tie as tie
@@ -56,20 +56,11 @@ loop-less-2 c = search needs
 loop-again-2 : tie.Need-loop-again-2 Inv-loop μ-loop
 loop-again-2 c = skipping-blank ((c .before .before .before .before .loop) .inv) ((c .before .before .before .loop-test) .taken) ((sym ((c .before .before .sort-at) .ensures) ∙ (c .enum-told2) .given .1))
 
-enum-told-3 : tie.Need-enum-told-3 Inv-loop μ-loop
-enum-told-3 c = search needs
-
 returns : tie.Need-returns Inv-loop μ-loop
-returns c = skipped-sound ((c .before .before .before .before .loop) .inv) ((c .before .before .before .loop-test) .taken) ((sym ((c .before .before .sort-at) .ensures) ∙ (c .enum-told3) .given .1))
-
-enum-told-4 : tie.Need-enum-told-4 Inv-loop μ-loop
-enum-told-4 c = search needs
+returns c = skipped-over ((c .before .before .before .loop) .inv) _ ((c .before .before .loop-test) .taken) (sym ((c .before .sort-at) .ensures)) ((c .match) .keys3)
 
 returns-2 : tie.Need-returns-2 Inv-loop μ-loop
-returns-2 c = skipped-wrong ((c .before .before .before .before .loop) .inv) _ ((c .before .before .before .loop-test) .taken) ((sym ((c .before .before .sort-at) .ensures) ∙ (c .enum-told4) .given .1))
-
-returns-3 : tie.Need-returns-3 Inv-loop μ-loop
-returns-3 c = skipped-end ((c .before .loop) .inv) ((c .loop-test) .left)
+returns-2 c = skipped-end ((c .before .loop) .inv) ((c .loop-test) .left)
 
 pub skip-on-spec : {M : Type 1} → statement M
 skip-on-spec =
@@ -91,8 +82,5 @@ skip-on-spec =
     add-at-2
     loop-less-2
     loop-again-2
-    enum-told-3
     returns
-    enum-told-4
-    returns-2
-    returns-3)
+    returns-2)

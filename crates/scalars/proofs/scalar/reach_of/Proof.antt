@@ -5,7 +5,7 @@ use native.Mathlib.Omega.{arith}
 use Prim.Native.Nat.{_-_}
 use Rattle.token.specs.Records.{count}
 use Rattle.output.specs.WalkLaws.{told, told-done, told-if, told-none}
-use Rattle.scalars.proofs.ScalarLaws.{Runs, run-end, dot-on, atom-on, other-ends, space-ends, space-on}
+use Rattle.scalars.proofs.ScalarLaws.{Runs, run-end, more-on, other-ends, space-ends, space-on}
 use borrow.Author.Needs.{needs}
 use Rattle.scalars.proofs.scalar.reach_of.Statement.{statement}
 use Rattle.scalars.proofs.scalar.reach_of.Tie as tie
@@ -34,26 +34,14 @@ returns c = run-end ((c .before .before .before .loop) .inv) (told-done _ _ _ ((
 in-scalar-requires : tie.Need-in-scalar-requires Inv-loop μ-loop
 in-scalar-requires c κs = search needs
 
-enum-told-2 : tie.Need-enum-told-2 Inv-loop μ-loop
-enum-told-2 c = search needs
-
 loop-less : tie.Need-loop-less Inv-loop μ-loop
-loop-less c = omega (arith, (told _ _ _ _ _ ((c .before .before .before .before .before .before .next) .ensures) ((c .before .before .before .before .step) .given .1)) .left, (told _ _ _ _ _ ((c .before .before .before .before .before .before .next) .ensures) ((c .before .before .before .before .step) .given .1)) .on)
+loop-less c = omega (arith, (told _ _ _ _ _ ((c .before .before .before .before .before .next) .ensures) ((c .before .before .before .step) .given .1)) .left, (told _ _ _ _ _ ((c .before .before .before .before .before .next) .ensures) ((c .before .before .before .step) .given .1)) .on)
 
 loop-again : tie.Need-loop-again Inv-loop μ-loop
-loop-again c = dot-on ((c .before .before .before .before .before .before .before .loop) .inv) _ (told _ _ _ _ _ ((c .before .before .before .before .before .before .next) .ensures) ((c .before .before .before .before .step) .given .1)) _ _ ((c .before .before .in-scalar) .ensures) ((c .enum-told2) .given .1) refl
+loop-again c = more-on ((c .before .before .before .before .before .before .loop) .inv) _ (told _ _ _ _ _ ((c .before .before .before .before .before .next) .ensures) ((c .before .before .before .step) .given .1)) _ _ ((c .before .in-scalar) .ensures) refl ((c .match2) .keys1)
 
-enum-told-3 : tie.Need-enum-told-3 Inv-loop μ-loop
-enum-told-3 c = search needs
-
-loop-less-2 : tie.Need-loop-less-2 Inv-loop μ-loop
-loop-less-2 c = omega (arith, (told _ _ _ _ _ ((c .before .before .before .before .before .before .next) .ensures) ((c .before .before .before .before .step) .given .1)) .left, (told _ _ _ _ _ ((c .before .before .before .before .before .before .next) .ensures) ((c .before .before .before .before .step) .given .1)) .on)
-
-loop-again-2 : tie.Need-loop-again-2 Inv-loop μ-loop
-loop-again-2 c = atom-on ((c .before .before .before .before .before .before .before .loop) .inv) _ (told _ _ _ _ _ ((c .before .before .before .before .before .before .next) .ensures) ((c .before .before .before .before .step) .given .1)) _ _ ((c .before .before .in-scalar) .ensures) ((c .enum-told3) .given .1) refl
-
-enum-told-4 : tie.Need-enum-told-4 Inv-loop μ-loop
-enum-told-4 c = search needs
+enum-told-2 : tie.Need-enum-told-2 Inv-loop μ-loop
+enum-told-2 c = search needs
 
 next-token-if-requires : tie.Need-next-token-if-requires Inv-loop μ-loop
 next-token-if-requires c κs = (told _ _ _ _ _ ((c .before .before .before .before .before .before .next) .ensures) ((c .before .before .before .before .step) .given .1)) .good
@@ -61,23 +49,23 @@ next-token-if-requires c κs = (told _ _ _ _ _ ((c .before .before .before .befo
 enum-known-two : tie.Need-enum-known-two Inv-loop μ-loop
 enum-known-two c = search needs
 
-enum-told-5 : tie.Need-enum-told-5 Inv-loop μ-loop
-enum-told-5 c = search needs
+enum-told-3 : tie.Need-enum-told-3 Inv-loop μ-loop
+enum-told-3 c = search needs
 
 returns-2 : tie.Need-returns-2 Inv-loop μ-loop
-returns-2 c = space-ends ((c .before .before .before .before .before .before .before .before .before .before .loop) .inv) _ (told _ _ _ _ _ ((c .before .before .before .before .before .before .before .before .before .next) .ensures) ((c .before .before .before .before .before .before .before .step) .given .1)) _ _ ((c .before .before .before .before .before .in-scalar) .ensures) ((c .before .before .before .enum-told4) .given .1) refl (told-none _ _ _ _ ((c .before .before .next-token-if) .ensures) ((c .enum-told5) .given .1))
+returns-2 c = space-ends ((c .before .before .before .before .before .before .before .before .before .before .loop) .inv) _ (told _ _ _ _ _ ((c .before .before .before .before .before .before .before .before .before .next) .ensures) ((c .before .before .before .before .before .before .before .step) .given .1)) _ _ ((c .before .before .before .before .before .in-scalar) .ensures) ((c .before .before .before .enum-told2) .given .1) refl (told-none _ _ _ _ ((c .before .before .next-token-if) .ensures) ((c .enum-told3) .given .1))
 
-loop-less-3 : tie.Need-loop-less-3 Inv-loop μ-loop
-loop-less-3 c = omega (arith, (told _ _ _ _ _ ((c .before .before .before .before .before .before .before .before .before .before .next) .ensures) ((c .before .before .before .before .before .before .before .before .step) .given .1)) .left, (told _ _ _ _ _ ((c .before .before .before .before .before .before .before .before .before .before .next) .ensures) ((c .before .before .before .before .before .before .before .before .step) .given .1)) .on, (told-if _ _ _ _ _ _ ((c .before .before .before .next-token-if) .ensures) ((c .before .two) .given .1)) .1 .on)
+loop-less-2 : tie.Need-loop-less-2 Inv-loop μ-loop
+loop-less-2 c = omega (arith, (told _ _ _ _ _ ((c .before .before .before .before .before .before .before .before .before .before .next) .ensures) ((c .before .before .before .before .before .before .before .before .step) .given .1)) .left, (told _ _ _ _ _ ((c .before .before .before .before .before .before .before .before .before .before .next) .ensures) ((c .before .before .before .before .before .before .before .before .step) .given .1)) .on, (told-if _ _ _ _ _ _ ((c .before .before .before .next-token-if) .ensures) ((c .before .two) .given .1)) .1 .on)
 
-loop-again-3 : tie.Need-loop-again-3 Inv-loop μ-loop
-loop-again-3 c = space-on ((c .before .before .before .before .before .before .before .before .before .before .before .loop) .inv) _ (told _ _ _ _ _ ((c .before .before .before .before .before .before .before .before .before .before .next) .ensures) ((c .before .before .before .before .before .before .before .before .step) .given .1)) _ _ ((c .before .before .before .before .before .before .in-scalar) .ensures) ((c .before .before .before .before .enum-told4) .given .1) refl _ (told-if _ _ _ _ _ _ ((c .before .before .before .next-token-if) .ensures) ((c .before .two) .given .1))
+loop-again-2 : tie.Need-loop-again-2 Inv-loop μ-loop
+loop-again-2 c = space-on ((c .before .before .before .before .before .before .before .before .before .before .before .loop) .inv) _ (told _ _ _ _ _ ((c .before .before .before .before .before .before .before .before .before .before .next) .ensures) ((c .before .before .before .before .before .before .before .before .step) .given .1)) _ _ ((c .before .before .before .before .before .before .in-scalar) .ensures) ((c .before .before .before .before .enum-told2) .given .1) refl _ (told-if _ _ _ _ _ _ ((c .before .before .before .next-token-if) .ensures) ((c .before .two) .given .1))
 
-enum-told-6 : tie.Need-enum-told-6 Inv-loop μ-loop
-enum-told-6 c = search needs
+enum-told-4 : tie.Need-enum-told-4 Inv-loop μ-loop
+enum-told-4 c = search needs
 
 returns-3 : tie.Need-returns-3 Inv-loop μ-loop
-returns-3 c = other-ends ((c .before .before .before .before .before .before .before .loop) .inv) _ (told _ _ _ _ _ ((c .before .before .before .before .before .before .next) .ensures) ((c .before .before .before .before .step) .given .1)) _ _ ((c .before .before .in-scalar) .ensures) ((c .enum-told6) .given .1) refl
+returns-3 c = other-ends ((c .before .before .before .before .before .before .before .loop) .inv) _ (told _ _ _ _ _ ((c .before .before .before .before .before .before .next) .ensures) ((c .before .before .before .before .step) .given .1)) _ _ ((c .before .before .in-scalar) .ensures) ((c .enum-told4) .given .1) refl
 
 pub reach-of-spec : {M : Type 1} → statement M
 reach-of-spec =
@@ -91,18 +79,14 @@ reach-of-spec =
     enum-told
     returns
     in-scalar-requires
-    enum-told-2
     loop-less
     loop-again
+    enum-told-2
+    next-token-if-requires
+    enum-known-two
     enum-told-3
+    returns-2
     loop-less-2
     loop-again-2
     enum-told-4
-    next-token-if-requires
-    enum-known-two
-    enum-told-5
-    returns-2
-    loop-less-3
-    loop-again-3
-    enum-told-6
     returns-3)

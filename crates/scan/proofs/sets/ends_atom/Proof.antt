@@ -1,69 +1,27 @@
--- By the byte.
+-- By the byte: those of an arm, or any other.
 -- Made by ./proofs from Proof.tmpl: change that.
-use borrow.Author.Tests.{ne-eqb}
-use Rattle.scan.specs.Lexer.{startOf}
+use mathlib.Core.Path.{refl}
+use mathlib.Core.Bool.{true}
+use mathlib.Core.List.{[], _∷_}
+use Rattle.scan.specs.Lexer.{startOf, endsAtom}
+use Rattle.scan.proofs.SetLaws.{by-byte, in-atom}
 use Rattle.scan.proofs.sets.ends_atom.Statement.{statement}
 use Rattle.scan.proofs.sets.ends_atom.Tie as tie
 
 returns : tie.Need-returns
 unfolding startOf
-returns c = rw ((c .match) .keys1)
+returns c = by-byte endsAtom true (44 ∷ 46 ∷ 61 ∷ 91 ∷ 93 ∷ 123 ∷ 125 ∷ []) ((c .before .args) .b) refl ((c .match) .keys1)
 
 returns-2 : tie.Need-returns-2
 unfolding startOf
-returns-2 c = rw ((c .match) .keys2)
+returns-2 c = by-byte endsAtom true (9 ∷ 32 ∷ []) ((c .before .args) .b) refl ((c .match) .keys2)
 
 returns-3 : tie.Need-returns-3
 unfolding startOf
-returns-3 c = rw ((c .match) .keys3)
+returns-3 c = by-byte endsAtom true (10 ∷ 13 ∷ 35 ∷ []) ((c .before .args) .b) refl ((c .match) .keys3)
 
 returns-4 : tie.Need-returns-4
-unfolding startOf
-returns-4 c = rw ((c .match) .keys4)
-
-returns-5 : tie.Need-returns-5
-unfolding startOf
-returns-5 c = rw ((c .match) .keys5)
-
-returns-6 : tie.Need-returns-6
-unfolding startOf
-returns-6 c = rw ((c .match) .keys6)
-
-returns-7 : tie.Need-returns-7
-unfolding startOf
-returns-7 c = rw ((c .match) .keys7)
-
-returns-8 : tie.Need-returns-8
-unfolding startOf
-returns-8 c = rw ((c .match) .keys8)
-
-returns-9 : tie.Need-returns-9
-unfolding startOf
-returns-9 c = rw ((c .match) .keys9)
-
-returns-10 : tie.Need-returns-10
-unfolding startOf
-returns-10 c = rw ((c .match) .keys10)
-
-returns-11 : tie.Need-returns-11
-unfolding startOf
-returns-11 c = rw ((c .match) .keys11)
-
-returns-12 : tie.Need-returns-12
-unfolding startOf
-returns-12 c = rw ((c .match) .keys12)
-
-returns-13 : tie.Need-returns-13
-unfolding startOf
-returns-13 c = rw ((c .match) .keys13)
-
-returns-14 : tie.Need-returns-14
-unfolding startOf
-returns-14 c = rw ((c .match) .keys14)
-
-returns-15 : tie.Need-returns-15
-unfolding startOf
-returns-15 c = simp (ne-eqb _ _ ((c .match) .rest .0 .0 .0 .0 .0 .0 .0 .0 .0 .0 .0 .0 .0 .1), ne-eqb _ _ ((c .match) .rest .0 .0 .0 .0 .0 .0 .0 .0 .0 .0 .0 .0 .1), ne-eqb _ _ ((c .match) .rest .0 .0 .0 .0 .0 .0 .0 .0 .0 .0 .0 .1), ne-eqb _ _ ((c .match) .rest .0 .0 .0 .0 .0 .0 .0 .0 .0 .0 .1), ne-eqb _ _ ((c .match) .rest .0 .0 .0 .0 .0 .0 .0 .0 .0 .1), ne-eqb _ _ ((c .match) .rest .0 .0 .0 .0 .0 .0 .0 .0 .1), ne-eqb _ _ ((c .match) .rest .0 .0 .0 .0 .0 .0 .0 .1), ne-eqb _ _ ((c .match) .rest .0 .0 .0 .0 .0 .0 .1), ne-eqb _ _ ((c .match) .rest .0 .0 .0 .0 .0 .1), ne-eqb _ _ ((c .match) .rest .0 .0 .0 .0 .1), ne-eqb _ _ ((c .match) .rest .0 .0 .0 .1), ne-eqb _ _ ((c .match) .rest .0 .0 .1), ne-eqb _ _ ((c .match) .rest .0 .1), ne-eqb _ _ ((c .match) .rest .1))
+returns-4 c = in-atom ((c .before .args) .b) ((c .match) .rest .0 .0 .1) ((c .match) .rest .0 .1) ((c .match) .rest .1)
 
 pub ends-atom-spec : {M : Type 1} → statement M
 ends-atom-spec =
@@ -72,15 +30,4 @@ ends-atom-spec =
     returns
     returns-2
     returns-3
-    returns-4
-    returns-5
-    returns-6
-    returns-7
-    returns-8
-    returns-9
-    returns-10
-    returns-11
-    returns-12
-    returns-13
-    returns-14
-    returns-15)
+    returns-4)

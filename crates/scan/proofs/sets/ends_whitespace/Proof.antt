@@ -1,86 +1,23 @@
--- By the byte.
+-- By the byte: the two of the arm, or any other.
 -- Made by ./proofs from Proof.tmpl: change that.
-use borrow.Author.Tests.{ne-eqb}
-use Rattle.scan.specs.Lexer.{startOf}
+use mathlib.Core.Path.{refl}
+use mathlib.Core.Bool.{false}
+use mathlib.Core.List.{[], _∷_}
+use Rattle.scan.specs.Lexer.{startOf, endsWhitespace}
+use Rattle.scan.proofs.SetLaws.{by-byte, past-blank}
 use Rattle.scan.proofs.sets.ends_whitespace.Statement.{statement}
 use Rattle.scan.proofs.sets.ends_whitespace.Tie as tie
 
 returns : tie.Need-returns
 unfolding startOf
-returns c = rw ((c .match) .keys1)
+returns c = by-byte endsWhitespace false (9 ∷ 32 ∷ []) ((c .before .args) .b) refl ((c .match) .keys1)
 
 returns-2 : tie.Need-returns-2
-unfolding startOf
-returns-2 c = rw ((c .match) .keys2)
-
-returns-3 : tie.Need-returns-3
-unfolding startOf
-returns-3 c = rw ((c .match) .keys3)
-
-returns-4 : tie.Need-returns-4
-unfolding startOf
-returns-4 c = rw ((c .match) .keys4)
-
-returns-5 : tie.Need-returns-5
-unfolding startOf
-returns-5 c = rw ((c .match) .keys5)
-
-returns-6 : tie.Need-returns-6
-unfolding startOf
-returns-6 c = rw ((c .match) .keys6)
-
-returns-7 : tie.Need-returns-7
-unfolding startOf
-returns-7 c = rw ((c .match) .keys7)
-
-returns-8 : tie.Need-returns-8
-unfolding startOf
-returns-8 c = rw ((c .match) .keys8)
-
-returns-9 : tie.Need-returns-9
-unfolding startOf
-returns-9 c = rw ((c .match) .keys9)
-
-returns-10 : tie.Need-returns-10
-unfolding startOf
-returns-10 c = rw ((c .match) .keys10)
-
-returns-11 : tie.Need-returns-11
-unfolding startOf
-returns-11 c = rw ((c .match) .keys11)
-
-returns-12 : tie.Need-returns-12
-unfolding startOf
-returns-12 c = rw ((c .match) .keys12)
-
-returns-13 : tie.Need-returns-13
-unfolding startOf
-returns-13 c = rw ((c .match) .keys13)
-
-returns-14 : tie.Need-returns-14
-unfolding startOf
-returns-14 c = rw ((c .match) .keys14)
-
-returns-15 : tie.Need-returns-15
-unfolding startOf
-returns-15 c = simp (ne-eqb _ _ ((c .match) .rest .0 .0 .0 .0 .0 .0 .0 .0 .0 .0 .0 .0 .0 .1), ne-eqb _ _ ((c .match) .rest .0 .0 .0 .0 .0 .0 .0 .0 .0 .0 .0 .0 .1), ne-eqb _ _ ((c .match) .rest .0 .0 .0 .0 .0 .0 .0 .0 .0 .0 .0 .1), ne-eqb _ _ ((c .match) .rest .0 .0 .0 .0 .0 .0 .0 .0 .0 .0 .1), ne-eqb _ _ ((c .match) .rest .0 .0 .0 .0 .0 .0 .0 .0 .0 .1), ne-eqb _ _ ((c .match) .rest .0 .0 .0 .0 .0 .0 .0 .0 .1), ne-eqb _ _ ((c .match) .rest .0 .0 .0 .0 .0 .0 .0 .1), ne-eqb _ _ ((c .match) .rest .0 .0 .0 .0 .0 .0 .1), ne-eqb _ _ ((c .match) .rest .0 .0 .0 .0 .0 .1), ne-eqb _ _ ((c .match) .rest .0 .0 .0 .0 .1), ne-eqb _ _ ((c .match) .rest .0 .0 .0 .1), ne-eqb _ _ ((c .match) .rest .0 .0 .1), ne-eqb _ _ ((c .match) .rest .0 .1), ne-eqb _ _ ((c .match) .rest .1))
+returns-2 c = past-blank ((c .before .args) .b) ((c .match) .rest .1)
 
 pub ends-whitespace-spec : {M : Type 1} → statement M
 ends-whitespace-spec =
     tie.close
     (tie.spec
     returns
-    returns-2
-    returns-3
-    returns-4
-    returns-5
-    returns-6
-    returns-7
-    returns-8
-    returns-9
-    returns-10
-    returns-11
-    returns-12
-    returns-13
-    returns-14
-    returns-15)
+    returns-2)

@@ -9,7 +9,7 @@ use Rattle.token.specs.Tokens.{tokensAt}
 use Rattle.output.specs.Pour.{bufs}
 use Rattle.output.specs.WalkLaws.{Looped, begun, again, finish, first-item, first-items, run-done, told, told-done}
 use Rattle.skip_lines.specs.LineEnd.{lineEnd, contentAfterComment}
-use Rattle.skip_lines.proofs.SkippingLaws.{line-at, line-none}
+use Rattle.skip_lines.proofs.SkippingLaws.{line-at, content-at, is-other, line-none}
 use borrow.Author.Needs.{needs}
 use Rattle.skip_lines.proofs.skipping.to_line_end.Statement.{statement}
 use Rattle.skip_lines.proofs.skipping.to_line_end.Tie as tie
@@ -73,76 +73,53 @@ same-length-6 c = (refl) ∙ (c .before .before .before .before .before .before 
 returns-3 : tie.Need-returns-3 Inv-loop μ-loop
 returns-3 c = finish ((c .before .before .before .before .before .before .before .loop) .inv .0) _ _ _ ((line-at _ _ _ _ (told _ _ _ _ _ ((c .before .before .before .before .before .before .next) .ensures) ((c .before .before .before .before .step) .given .1)) _ _ ((c .before .before .in-line) .ensures) ((c .enum-told3) .given .1) _ _ ((c .before .before .before .before .before .before .before .loop) .after) _ ((c .before .before .before .before .before .before .before .loop) .start)) refl ∙ (refl) ∙ run-done _ _ _ _ _ _) (omega (arith, (told _ _ _ _ _ ((c .before .before .before .before .before .before .next) .ensures) ((c .before .before .before .before .step) .given .1)) .on)) ((told _ _ _ _ _ ((c .before .before .before .before .before .before .next) .ensures) ((c .before .before .before .before .step) .given .1)) .base) ((told _ _ _ _ _ ((c .before .before .before .before .before .before .next) .ensures) ((c .before .before .before .before .step) .given .1)) .good)
 
-enum-told-4 : tie.Need-enum-told-4 Inv-loop μ-loop
-enum-told-4 c = search needs
-
 content-after-comment-requires : tie.Need-content-after-comment-requires Inv-loop μ-loop
 content-after-comment-requires c κs = search needs
 
 loop-less : tie.Need-loop-less Inv-loop μ-loop
-loop-less c = omega (arith, (told _ _ _ _ _ ((c .before .before .before .before .before .before .before .before .before .before .before .before .before .before .next) .ensures) ((c .before .before .before .before .before .before .before .before .before .before .before .before .step) .given .1)) .left, (told _ _ _ _ _ ((c .before .before .before .before .before .before .before .before .before .before .before .before .before .before .next) .ensures) ((c .before .before .before .before .before .before .before .before .before .before .before .before .step) .given .1)) .on)
+loop-less c = omega (arith, (told _ _ _ _ _ ((c .before .before .before .before .before .before .before .before .before .before .before .before .before .next) .ensures) ((c .before .before .before .before .before .before .before .before .before .before .before .step) .given .1)) .left, (told _ _ _ _ _ ((c .before .before .before .before .before .before .before .before .before .before .before .before .before .next) .ensures) ((c .before .before .before .before .before .before .before .before .before .before .before .step) .given .1)) .on)
 
 loop-again : tie.Need-loop-again Inv-loop μ-loop
 loop-again c =
-    (again ((c .before .before .before .before .before .before .before .before .before .before .before .before .before .before .before .loop) .inv .0) _ _ _ ((line-at _ _ _ _ (told _ _ _ _ _ ((c .before .before .before .before .before .before .before .before .before .before .before .before .before .before .next) .ensures) ((c .before .before .before .before .before .before .before .before .before .before .before .before .step) .given .1)) _ _ ((c .before .before .before .before .before .before .before .before .before .before .in-line) .ensures) ((c .before .before .before .before .before .before .before .before .enum-told4) .given .1) _ _ ((c .before .before .before .before .before .before .before .before .before .before .before .before .before .before .before .loop) .after) _ ((c .before .before .before .before .before .before .before .before .before .before .before .before .before .before .before .loop) .start)) ((c .before .before .before .before .before .before .before .if1) .taken) ∙ first-items _ (contentAfterComment ((c .before .before .before .before .before .before .before .before .before .before .before .before .before .before .before .loop) .start) ((c .before .before .before .before .before .before .before .before .before .before .before .before .step) .given .0 .0 .start) ((c .before .before .before .before .before .before .before .before .before .before .before .before .step) .given .0 .0 .end)) _ _ _ ((c .before .before .before .before .content-after-comment) .ensures _)) (omega (arith, (told _ _ _ _ _ ((c .before .before .before .before .before .before .before .before .before .before .before .before .before .before .next) .ensures) ((c .before .before .before .before .before .before .before .before .before .before .before .before .step) .given .1)) .on)) ((told _ _ _ _ _ ((c .before .before .before .before .before .before .before .before .before .before .before .before .before .before .next) .ensures) ((c .before .before .before .before .before .before .before .before .before .before .before .before .step) .given .1)) .base) ((told _ _ _ _ _ ((c .before .before .before .before .before .before .before .before .before .before .before .before .before .before .next) .ensures) ((c .before .before .before .before .before .before .before .before .before .before .before .before .step) .given .1)) .good), ((c .before .before .before .before .content-after-comment .kept .1 .1 .1 .0)) ∙ (c .before .before .before .before .before .before .before .before .before .before .before .before .before .before .before .loop) .inv .1, ((c .before .before .before .before .content-after-comment .kept .1 .1 .1 .1 .0)) ∙ (c .before .before .before .before .before .before .before .before .before .before .before .before .before .before .before .loop) .inv .2)
+    (again ((c .before .before .before .before .before .before .before .before .before .before .before .before .before .before .loop) .inv .0) _ _ _ ((content-at _ _ _ _ (told _ _ _ _ _ ((c .before .before .before .before .before .before .before .before .before .before .before .before .before .next) .ensures) ((c .before .before .before .before .before .before .before .before .before .before .before .step) .given .1)) _ ((c .before .before .before .before .before .before .before .before .before .in-line) .ensures) ((c .before .before .before .before .before .before .before .before .match2) .keys3) _ _ ((c .before .before .before .before .before .before .before .before .before .before .before .before .before .before .loop) .after) ((c .before .before .before .before .before .before .before .before .before .before .before .before .before .before .loop) .start) ((c .before .before .before .before .before .before .before .if1) .taken)) ∙ first-items _ (contentAfterComment ((c .before .before .before .before .before .before .before .before .before .before .before .before .before .before .loop) .start) ((c .before .before .before .before .before .before .before .before .before .before .before .step) .given .0 .0 .start) ((c .before .before .before .before .before .before .before .before .before .before .before .step) .given .0 .0 .end)) _ _ _ ((c .before .before .before .before .content-after-comment) .ensures _)) (omega (arith, (told _ _ _ _ _ ((c .before .before .before .before .before .before .before .before .before .before .before .before .before .next) .ensures) ((c .before .before .before .before .before .before .before .before .before .before .before .step) .given .1)) .on)) ((told _ _ _ _ _ ((c .before .before .before .before .before .before .before .before .before .before .before .before .before .next) .ensures) ((c .before .before .before .before .before .before .before .before .before .before .before .step) .given .1)) .base) ((told _ _ _ _ _ ((c .before .before .before .before .before .before .before .before .before .before .before .before .before .next) .ensures) ((c .before .before .before .before .before .before .before .before .before .before .before .step) .given .1)) .good), ((c .before .before .before .before .content-after-comment .kept .1 .1 .1 .0)) ∙ (c .before .before .before .before .before .before .before .before .before .before .before .before .before .before .loop) .inv .1, ((c .before .before .before .before .content-after-comment .kept .1 .1 .1 .1 .0)) ∙ (c .before .before .before .before .before .before .before .before .before .before .before .before .before .before .loop) .inv .2)
+
+enum-told-4 : tie.Need-enum-told-4 Inv-loop μ-loop
+enum-told-4 c = search needs
 
 emit-requires-2 : tie.Need-emit-requires-2 Inv-loop μ-loop
 emit-requires-2 c κs = search needs
 
 loop-less-2 : tie.Need-loop-less-2 Inv-loop μ-loop
-loop-less-2 c = omega (arith, (told _ _ _ _ _ ((c .before .before .before .before .before .before .before .before .before .before .before .next) .ensures) ((c .before .before .before .before .before .before .before .before .before .step) .given .1)) .left, (told _ _ _ _ _ ((c .before .before .before .before .before .before .before .before .before .before .before .next) .ensures) ((c .before .before .before .before .before .before .before .before .before .step) .given .1)) .on)
+loop-less-2 c = omega (arith, (told _ _ _ _ _ ((c .before .before .before .before .before .before .before .before .before .before .before .before .next) .ensures) ((c .before .before .before .before .before .before .before .before .before .before .step) .given .1)) .left, (told _ _ _ _ _ ((c .before .before .before .before .before .before .before .before .before .before .before .before .next) .ensures) ((c .before .before .before .before .before .before .before .before .before .before .step) .given .1)) .on)
 
 loop-again-2 : tie.Need-loop-again-2 Inv-loop μ-loop
 loop-again-2 c =
-    rw ((c .before .before .before .before .if1) .left)
-    (again ((c .before .before .before .before .before .before .before .before .before .before .before .before .loop) .inv .0) _ _ _ ((line-at _ _ _ _ (told _ _ _ _ _ ((c .before .before .before .before .before .before .before .before .before .before .before .next) .ensures) ((c .before .before .before .before .before .before .before .before .before .step) .given .1)) _ _ ((c .before .before .before .before .before .before .before .in-line) .ensures) ((c .before .before .before .before .before .enum-told4) .given .1) _ _ ((c .before .before .before .before .before .before .before .before .before .before .before .before .loop) .after) _ ((c .before .before .before .before .before .before .before .before .before .before .before .before .loop) .start)) ((c .before .before .before .before .if1) .left) ∙ ((first-item _ _ _ _ _ (c .before .before .emit2 .ensures _ _)))) (omega (arith, (told _ _ _ _ _ ((c .before .before .before .before .before .before .before .before .before .before .before .next) .ensures) ((c .before .before .before .before .before .before .before .before .before .step) .given .1)) .on)) ((told _ _ _ _ _ ((c .before .before .before .before .before .before .before .before .before .before .before .next) .ensures) ((c .before .before .before .before .before .before .before .before .before .step) .given .1)) .base) ((told _ _ _ _ _ ((c .before .before .before .before .before .before .before .before .before .before .before .next) .ensures) ((c .before .before .before .before .before .before .before .before .before .step) .given .1)) .good), ((c .before .before .emit2 .kept .0)) ∙ (c .before .before .before .before .before .before .before .before .before .before .before .before .loop) .inv .1, (refl) ∙ (c .before .before .before .before .before .before .before .before .before .before .before .before .loop) .inv .2)
+    rw ((c .before .before .before .before .before .before .if1) .left)
+    (again ((c .before .before .before .before .before .before .before .before .before .before .before .before .before .loop) .inv .0) _ _ _ ((line-at _ _ _ _ (told _ _ _ _ _ ((c .before .before .before .before .before .before .before .before .before .before .before .before .next) .ensures) ((c .before .before .before .before .before .before .before .before .before .before .step) .given .1)) _ _ ((c .before .before .before .before .before .before .before .before .in-line) .ensures) ((c .before .before .before .before .enum-told4) .given .1) _ _ ((c .before .before .before .before .before .before .before .before .before .before .before .before .before .loop) .after) _ ((c .before .before .before .before .before .before .before .before .before .before .before .before .before .loop) .start)) ((c .before .before .before .before .before .before .if1) .left) ∙ ((first-item _ _ _ _ _ (c .before .before .emit2 .ensures _ _)))) (omega (arith, (told _ _ _ _ _ ((c .before .before .before .before .before .before .before .before .before .before .before .before .next) .ensures) ((c .before .before .before .before .before .before .before .before .before .before .step) .given .1)) .on)) ((told _ _ _ _ _ ((c .before .before .before .before .before .before .before .before .before .before .before .before .next) .ensures) ((c .before .before .before .before .before .before .before .before .before .before .step) .given .1)) .base) ((told _ _ _ _ _ ((c .before .before .before .before .before .before .before .before .before .before .before .before .next) .ensures) ((c .before .before .before .before .before .before .before .before .before .before .step) .given .1)) .good), ((c .before .before .emit2 .kept .0)) ∙ (c .before .before .before .before .before .before .before .before .before .before .before .before .before .loop) .inv .1, (refl) ∙ (c .before .before .before .before .before .before .before .before .before .before .before .before .before .loop) .inv .2)
 
 enum-told-5 : tie.Need-enum-told-5 Inv-loop μ-loop
 enum-told-5 c = search needs
 
-content-after-comment-requires-2 : tie.Need-content-after-comment-requires-2 Inv-loop μ-loop
-content-after-comment-requires-2 c κs = search needs
+emit-requires-3 : tie.Need-emit-requires-3 Inv-loop μ-loop
+emit-requires-3 c κs = search needs
 
 loop-less-3 : tie.Need-loop-less-3 Inv-loop μ-loop
-loop-less-3 c = omega (arith, (told _ _ _ _ _ ((c .before .before .before .before .before .before .before .before .before .before .before .before .before .before .next) .ensures) ((c .before .before .before .before .before .before .before .before .before .before .before .before .step) .given .1)) .left, (told _ _ _ _ _ ((c .before .before .before .before .before .before .before .before .before .before .before .before .before .before .next) .ensures) ((c .before .before .before .before .before .before .before .before .before .before .before .before .step) .given .1)) .on)
+loop-less-3 c = omega (arith, (told _ _ _ _ _ ((c .before .before .before .before .before .before .before .before .before .before .before .before .next) .ensures) ((c .before .before .before .before .before .before .before .before .before .before .step) .given .1)) .left, (told _ _ _ _ _ ((c .before .before .before .before .before .before .before .before .before .before .before .before .next) .ensures) ((c .before .before .before .before .before .before .before .before .before .before .step) .given .1)) .on)
 
 loop-again-3 : tie.Need-loop-again-3 Inv-loop μ-loop
 loop-again-3 c =
-    (again ((c .before .before .before .before .before .before .before .before .before .before .before .before .before .before .before .loop) .inv .0) _ _ _ ((line-at _ _ _ _ (told _ _ _ _ _ ((c .before .before .before .before .before .before .before .before .before .before .before .before .before .before .next) .ensures) ((c .before .before .before .before .before .before .before .before .before .before .before .before .step) .given .1)) _ _ ((c .before .before .before .before .before .before .before .before .before .before .in-line) .ensures) ((c .before .before .before .before .before .before .before .before .enum-told5) .given .1) _ _ ((c .before .before .before .before .before .before .before .before .before .before .before .before .before .before .before .loop) .after) _ ((c .before .before .before .before .before .before .before .before .before .before .before .before .before .before .before .loop) .start)) ((c .before .before .before .before .before .before .before .if2) .taken) ∙ first-items _ (contentAfterComment ((c .before .before .before .before .before .before .before .before .before .before .before .before .before .before .before .loop) .start) ((c .before .before .before .before .before .before .before .before .before .before .before .before .step) .given .0 .0 .start) ((c .before .before .before .before .before .before .before .before .before .before .before .before .step) .given .0 .0 .end)) _ _ _ ((c .before .before .before .before .content-after-comment2) .ensures _)) (omega (arith, (told _ _ _ _ _ ((c .before .before .before .before .before .before .before .before .before .before .before .before .before .before .next) .ensures) ((c .before .before .before .before .before .before .before .before .before .before .before .before .step) .given .1)) .on)) ((told _ _ _ _ _ ((c .before .before .before .before .before .before .before .before .before .before .before .before .before .before .next) .ensures) ((c .before .before .before .before .before .before .before .before .before .before .before .before .step) .given .1)) .base) ((told _ _ _ _ _ ((c .before .before .before .before .before .before .before .before .before .before .before .before .before .before .next) .ensures) ((c .before .before .before .before .before .before .before .before .before .before .before .before .step) .given .1)) .good), ((c .before .before .before .before .content-after-comment2 .kept .1 .1 .1 .0)) ∙ (c .before .before .before .before .before .before .before .before .before .before .before .before .before .before .before .loop) .inv .1, ((c .before .before .before .before .content-after-comment2 .kept .1 .1 .1 .1 .0)) ∙ (c .before .before .before .before .before .before .before .before .before .before .before .before .before .before .before .loop) .inv .2)
+    (again ((c .before .before .before .before .before .before .before .before .before .before .before .before .before .loop) .inv .0) _ _ _ ((line-at _ _ _ _ (told _ _ _ _ _ ((c .before .before .before .before .before .before .before .before .before .before .before .before .next) .ensures) ((c .before .before .before .before .before .before .before .before .before .before .step) .given .1)) _ _ ((c .before .before .before .before .before .before .before .before .in-line) .ensures) ((c .before .before .before .before .enum-told5) .given .1) _ _ ((c .before .before .before .before .before .before .before .before .before .before .before .before .before .loop) .after) _ ((c .before .before .before .before .before .before .before .before .before .before .before .before .before .loop) .start)) ((c .before .before .before .before .before .before .if1) .left) ∙ ((first-item _ _ _ _ _ (c .before .before .emit3 .ensures _ _)))) (omega (arith, (told _ _ _ _ _ ((c .before .before .before .before .before .before .before .before .before .before .before .before .next) .ensures) ((c .before .before .before .before .before .before .before .before .before .before .step) .given .1)) .on)) ((told _ _ _ _ _ ((c .before .before .before .before .before .before .before .before .before .before .before .before .next) .ensures) ((c .before .before .before .before .before .before .before .before .before .before .step) .given .1)) .base) ((told _ _ _ _ _ ((c .before .before .before .before .before .before .before .before .before .before .before .before .next) .ensures) ((c .before .before .before .before .before .before .before .before .before .before .step) .given .1)) .good), ((c .before .before .emit3 .kept .0)) ∙ (c .before .before .before .before .before .before .before .before .before .before .before .before .before .loop) .inv .1, (refl) ∙ (c .before .before .before .before .before .before .before .before .before .before .before .before .before .loop) .inv .2)
 
-emit-requires-3 : tie.Need-emit-requires-3 Inv-loop μ-loop
-emit-requires-3 c κs = search needs
+emit-requires-4 : tie.Need-emit-requires-4 Inv-loop μ-loop
+emit-requires-4 c κs = search needs
 
 loop-less-4 : tie.Need-loop-less-4 Inv-loop μ-loop
 loop-less-4 c = omega (arith, (told _ _ _ _ _ ((c .before .before .before .before .before .before .before .before .before .before .before .next) .ensures) ((c .before .before .before .before .before .before .before .before .before .step) .given .1)) .left, (told _ _ _ _ _ ((c .before .before .before .before .before .before .before .before .before .before .before .next) .ensures) ((c .before .before .before .before .before .before .before .before .before .step) .given .1)) .on)
 
 loop-again-4 : tie.Need-loop-again-4 Inv-loop μ-loop
 loop-again-4 c =
-    (again ((c .before .before .before .before .before .before .before .before .before .before .before .before .loop) .inv .0) _ _ _ ((line-at _ _ _ _ (told _ _ _ _ _ ((c .before .before .before .before .before .before .before .before .before .before .before .next) .ensures) ((c .before .before .before .before .before .before .before .before .before .step) .given .1)) _ _ ((c .before .before .before .before .before .before .before .in-line) .ensures) ((c .before .before .before .before .before .enum-told5) .given .1) _ _ ((c .before .before .before .before .before .before .before .before .before .before .before .before .loop) .after) _ ((c .before .before .before .before .before .before .before .before .before .before .before .before .loop) .start)) ((c .before .before .before .before .if2) .left) ∙ ((first-item _ _ _ _ _ (c .before .before .emit3 .ensures _ _)))) (omega (arith, (told _ _ _ _ _ ((c .before .before .before .before .before .before .before .before .before .before .before .next) .ensures) ((c .before .before .before .before .before .before .before .before .before .step) .given .1)) .on)) ((told _ _ _ _ _ ((c .before .before .before .before .before .before .before .before .before .before .before .next) .ensures) ((c .before .before .before .before .before .before .before .before .before .step) .given .1)) .base) ((told _ _ _ _ _ ((c .before .before .before .before .before .before .before .before .before .before .before .next) .ensures) ((c .before .before .before .before .before .before .before .before .before .step) .given .1)) .good), ((c .before .before .emit3 .kept .0)) ∙ (c .before .before .before .before .before .before .before .before .before .before .before .before .loop) .inv .1, (refl) ∙ (c .before .before .before .before .before .before .before .before .before .before .before .before .loop) .inv .2)
-
-enum-told-6 : tie.Need-enum-told-6 Inv-loop μ-loop
-enum-told-6 c = search needs
-
-content-after-comment-requires-3 : tie.Need-content-after-comment-requires-3 Inv-loop μ-loop
-content-after-comment-requires-3 c κs = search needs
-
-loop-less-5 : tie.Need-loop-less-5 Inv-loop μ-loop
-loop-less-5 c = omega (arith, (told _ _ _ _ _ ((c .before .before .before .before .before .before .before .before .before .before .before .before .before .before .next) .ensures) ((c .before .before .before .before .before .before .before .before .before .before .before .before .step) .given .1)) .left, (told _ _ _ _ _ ((c .before .before .before .before .before .before .before .before .before .before .before .before .before .before .next) .ensures) ((c .before .before .before .before .before .before .before .before .before .before .before .before .step) .given .1)) .on)
-
-loop-again-5 : tie.Need-loop-again-5 Inv-loop μ-loop
-loop-again-5 c =
-    (again ((c .before .before .before .before .before .before .before .before .before .before .before .before .before .before .before .loop) .inv .0) _ _ _ ((line-at _ _ _ _ (told _ _ _ _ _ ((c .before .before .before .before .before .before .before .before .before .before .before .before .before .before .next) .ensures) ((c .before .before .before .before .before .before .before .before .before .before .before .before .step) .given .1)) _ _ ((c .before .before .before .before .before .before .before .before .before .before .in-line) .ensures) ((c .before .before .before .before .before .before .before .before .enum-told6) .given .1) _ _ ((c .before .before .before .before .before .before .before .before .before .before .before .before .before .before .before .loop) .after) _ ((c .before .before .before .before .before .before .before .before .before .before .before .before .before .before .before .loop) .start)) ((c .before .before .before .before .before .before .before .if3) .taken) ∙ first-items _ (contentAfterComment ((c .before .before .before .before .before .before .before .before .before .before .before .before .before .before .before .loop) .start) ((c .before .before .before .before .before .before .before .before .before .before .before .before .step) .given .0 .0 .start) ((c .before .before .before .before .before .before .before .before .before .before .before .before .step) .given .0 .0 .end)) _ _ _ ((c .before .before .before .before .content-after-comment3) .ensures _)) (omega (arith, (told _ _ _ _ _ ((c .before .before .before .before .before .before .before .before .before .before .before .before .before .before .next) .ensures) ((c .before .before .before .before .before .before .before .before .before .before .before .before .step) .given .1)) .on)) ((told _ _ _ _ _ ((c .before .before .before .before .before .before .before .before .before .before .before .before .before .before .next) .ensures) ((c .before .before .before .before .before .before .before .before .before .before .before .before .step) .given .1)) .base) ((told _ _ _ _ _ ((c .before .before .before .before .before .before .before .before .before .before .before .before .before .before .next) .ensures) ((c .before .before .before .before .before .before .before .before .before .before .before .before .step) .given .1)) .good), ((c .before .before .before .before .content-after-comment3 .kept .1 .1 .1 .0)) ∙ (c .before .before .before .before .before .before .before .before .before .before .before .before .before .before .before .loop) .inv .1, ((c .before .before .before .before .content-after-comment3 .kept .1 .1 .1 .1 .0)) ∙ (c .before .before .before .before .before .before .before .before .before .before .before .before .before .before .before .loop) .inv .2)
-
-emit-requires-4 : tie.Need-emit-requires-4 Inv-loop μ-loop
-emit-requires-4 c κs = search needs
-
-loop-less-6 : tie.Need-loop-less-6 Inv-loop μ-loop
-loop-less-6 c = omega (arith, (told _ _ _ _ _ ((c .before .before .before .before .before .before .before .before .before .before .before .next) .ensures) ((c .before .before .before .before .before .before .before .before .before .step) .given .1)) .left, (told _ _ _ _ _ ((c .before .before .before .before .before .before .before .before .before .before .before .next) .ensures) ((c .before .before .before .before .before .before .before .before .before .step) .given .1)) .on)
-
-loop-again-6 : tie.Need-loop-again-6 Inv-loop μ-loop
-loop-again-6 c =
-    rw ((c .before .before .before .before .if3) .left)
-    (again ((c .before .before .before .before .before .before .before .before .before .before .before .before .loop) .inv .0) _ _ _ ((line-at _ _ _ _ (told _ _ _ _ _ ((c .before .before .before .before .before .before .before .before .before .before .before .next) .ensures) ((c .before .before .before .before .before .before .before .before .before .step) .given .1)) _ _ ((c .before .before .before .before .before .before .before .in-line) .ensures) ((c .before .before .before .before .before .enum-told6) .given .1) _ _ ((c .before .before .before .before .before .before .before .before .before .before .before .before .loop) .after) _ ((c .before .before .before .before .before .before .before .before .before .before .before .before .loop) .start)) ((c .before .before .before .before .if3) .left) ∙ ((first-item _ _ _ _ _ (c .before .before .emit4 .ensures _ _)))) (omega (arith, (told _ _ _ _ _ ((c .before .before .before .before .before .before .before .before .before .before .before .next) .ensures) ((c .before .before .before .before .before .before .before .before .before .step) .given .1)) .on)) ((told _ _ _ _ _ ((c .before .before .before .before .before .before .before .before .before .before .before .next) .ensures) ((c .before .before .before .before .before .before .before .before .before .step) .given .1)) .base) ((told _ _ _ _ _ ((c .before .before .before .before .before .before .before .before .before .before .before .next) .ensures) ((c .before .before .before .before .before .before .before .before .before .step) .given .1)) .good), ((c .before .before .emit4 .kept .0)) ∙ (c .before .before .before .before .before .before .before .before .before .before .before .before .loop) .inv .1, (refl) ∙ (c .before .before .before .before .before .before .before .before .before .before .before .before .loop) .inv .2)
+    rw ((c .before .before .before .before .before .if1) .left)
+    (again ((c .before .before .before .before .before .before .before .before .before .before .before .before .loop) .inv .0) _ _ _ (line-at _ _ _ _ (told _ _ _ _ _ ((c .before .before .before .before .before .before .before .before .before .before .before .next) .ensures) ((c .before .before .before .before .before .before .before .before .before .step) .given .1)) _ _ ((c .before .before .before .before .before .before .before .in-line) .ensures) (is-other ((c .before .before .before .before .before .before .before .in-line) .result) ((c .before .before .before .before .before .before .match2) .keys3) ((c .before .before .before .before .match3) .keys3)) _ _ ((c .before .before .before .before .before .before .before .before .before .before .before .before .loop) .after) _ ((c .before .before .before .before .before .before .before .before .before .before .before .before .loop) .start) ((c .before .before .before .before .before .if1) .left) ∙ ((first-item _ _ _ _ _ (c .before .before .emit4 .ensures _ _)))) (omega (arith, (told _ _ _ _ _ ((c .before .before .before .before .before .before .before .before .before .before .before .next) .ensures) ((c .before .before .before .before .before .before .before .before .before .step) .given .1)) .on)) ((told _ _ _ _ _ ((c .before .before .before .before .before .before .before .before .before .before .before .next) .ensures) ((c .before .before .before .before .before .before .before .before .before .step) .given .1)) .base) ((told _ _ _ _ _ ((c .before .before .before .before .before .before .before .before .before .before .before .next) .ensures) ((c .before .before .before .before .before .before .before .before .before .step) .given .1)) .good), ((c .before .before .emit4 .kept .0)) ∙ (c .before .before .before .before .before .before .before .before .before .before .before .before .loop) .inv .1, (refl) ∙ (c .before .before .before .before .before .before .before .before .before .before .before .before .loop) .inv .2)
 
 pub to-line-end-spec : {M : Type 1} → statement M
 to-line-end-spec =
@@ -167,24 +144,17 @@ to-line-end-spec =
     same-length-5
     same-length-6
     returns-3
-    enum-told-4
     content-after-comment-requires
     loop-less
     loop-again
+    enum-told-4
     emit-requires-2
     loop-less-2
     loop-again-2
     enum-told-5
-    content-after-comment-requires-2
+    emit-requires-3
     loop-less-3
     loop-again-3
-    emit-requires-3
-    loop-less-4
-    loop-again-4
-    enum-told-6
-    content-after-comment-requires-3
-    loop-less-5
-    loop-again-5
     emit-requires-4
-    loop-less-6
-    loop-again-6)
+    loop-less-4
+    loop-again-4)

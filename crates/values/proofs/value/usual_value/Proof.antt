@@ -3,7 +3,8 @@
 use mathlib.Core.Path.{sym}
 use Rattle.output.specs.WalkLaws.{told, goes-as, goes-past}
 use Rattle.nest.specs.NestedLaws.{nested-goes, nested-same, nested-as, nested-past}
-use Rattle.values.proofs.ValueLaws.{value-is, value-starts}
+use Rattle.flat_values.specs.FlatLaws.{value-starts}
+use Rattle.values.proofs.ValueLaws.{value-is}
 use borrow.Author.Needs.{needs}
 use Rattle.values.proofs.value.usual_value.Statement.{statement}
 use Rattle.values.proofs.value.usual_value.Tie as tie
@@ -68,18 +69,6 @@ returns-3 c = nested-same ((c .unstopped) .ensures) (nested-goes (goes-as (sym (
 enum-told-4 : tie.Need-enum-told-4
 enum-told-4 c = search needs
 
-enum-told-5 : tie.Need-enum-told-5
-enum-told-5 c = search needs
-
-enum-told-6 : tie.Need-enum-told-6
-enum-told-6 c = search needs
-
-enum-told-7 : tie.Need-enum-told-7
-enum-told-7 c = search needs
-
-enum-told-8 : tie.Need-enum-told-8
-enum-told-8 c = search needs
-
 value-requires : tie.Need-value-requires
 value-requires c κs = (c .before .before .before .before .before .before .before .pre)
 
@@ -116,10 +105,6 @@ usual-value-spec =
     same-length-6
     returns-3
     enum-told-4
-    enum-told-5
-    enum-told-6
-    enum-told-7
-    enum-told-8
     value-requires
     same-length-7
     same-length-8

@@ -4,8 +4,8 @@ use Prim.Native.Nat.{_-_}
 use mathlib.Core.Path.{_≡_}
 use lib.ListN.{length}
 use borrow.Author.Needs.{needs}
-use Rattle.limits.proofs.lists.fill.Statement.{statement}
-use Rattle.limits.proofs.lists.fill.Tie as tie
+use Rattle.limit_lists.proofs.lists.fill.Statement.{statement}
+use Rattle.limit_lists.proofs.lists.fill.Tie as tie
 
 abbrev Inv-loop : tie.InvT-loop
 Inv-loop list₀ from to kind i₀ list i = length list ≡ length list₀

@@ -1,4 +1,4 @@
-// A closing bracket where a value is wanted.
+// A closing bracket where a value is wanted. Proved equal to its rule.
 use output::emitting::Counts;
 use output::emitting::emit;
 use output::emitting::report_before;

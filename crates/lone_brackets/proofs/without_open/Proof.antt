@@ -1,8 +1,8 @@
 -- By the bracket: the report, the open, the close.
 -- Made by ./proofs from Proof.tmpl: change that.
 use borrow.Author.Needs.{needs}
-use Rattle.array_parts.proofs.brackets.without_open.Statement.{statement}
-use Rattle.array_parts.proofs.brackets.without_open.Tie as tie
+use Rattle.lone_brackets.proofs.without_open.Statement.{statement}
+use Rattle.lone_brackets.proofs.without_open.Tie as tie
 
 enum-told : tie.Need-enum-told
 enum-told c = search needs
