@@ -12,7 +12,7 @@ use token::cursor::{Cursor, Sought, Token};
 use token::span::Span;
 
 // Another turn; the end; or first what the bracket opens.
-#[derive(Drop)]
+#[derive(Clone, Copy)]
 pub enum Next {
     Again,
     Over,
@@ -21,7 +21,7 @@ pub enum Next {
 }
 
 // Where a turn ended, the counts there, and what is next. An array and an inline table have their own state beside it.
-#[derive(Drop)]
+#[derive(Clone, Copy)]
 pub struct Turn {
     pub cur: Cursor,
     pub n: Counts,

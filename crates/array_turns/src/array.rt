@@ -23,7 +23,7 @@ use skip_lines::skipping::on_comment;
 use token::cursor::{Cursor, Step, Token};
 
 // A turn, and the state behind it.
-#[derive(Drop)]
+#[derive(Clone, Copy)]
 pub struct ArrayTurn {
     pub turn: Turn,
     pub state: ArrayState,

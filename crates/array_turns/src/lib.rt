@@ -1,2 +1,4 @@
 // One turn in an array, proved equal to its rule.
+#![tactic(auto)]
+
 pub mod array;

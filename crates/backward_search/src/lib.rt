@@ -1,4 +1,6 @@
 // The search backward from a cursor: the nearest token before it that is one of those sought.
+#![tactic(auto)]
+
 ghost use Rattle.std.specs.Prelude.{◌≡◌};
 ghost use Rattle.token.specs.Kinds.{in_search};
 ghost use Rattle.token.specs.Tokens.{Good, all_tokens};

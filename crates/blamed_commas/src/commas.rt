@@ -11,7 +11,7 @@ use token::kind::{InSearch, Kind};
 use token::record::{kind_at, length_at};
 
 // The last Comma before the record `upto`: the record behind it, 0 if there is none; its span; its line.
-#[derive(Drop)]
+#[derive(Clone, Copy)]
 pub struct Comma {
     pub upto: usize,
     pub behind: usize,

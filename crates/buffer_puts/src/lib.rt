@@ -1,4 +1,6 @@
 // Entry i of a lent buffer, if there is room for it; and numbers that stop at a bound.
+#![tactic(auto)]
+
 ghost use Rattle.std.specs.Prelude.{◌≡◌};
 ghost use Rattle.buffer_puts.specs.Puts.{more, capped, put_event, put_error};
 

@@ -1,2 +1,4 @@
 // What a caller chooses: modes by their numbers, and what an entry answers to one.
+#![tactic(auto)]
+
 pub mod modes;

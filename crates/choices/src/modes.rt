@@ -6,7 +6,7 @@ use rules::answer::Answer;
 use rules::options::{Mode, Options};
 
 // What a mode's number stands for, if for anything.
-#[derive(Drop)]
+#[derive(Clone, Copy)]
 pub enum Chosen {
     Known(Options),
     Unknown,

@@ -1,4 +1,6 @@
 // What each kind of token is to the rules, and each event in numbers: the definitions of the crate rules, as code.
+#![tactic(auto)]
+
 pub mod array;
 pub mod document;
 pub mod event;

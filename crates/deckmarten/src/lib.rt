@@ -1,5 +1,7 @@
 // The four entries, and the document entry over token structs, for programs in C and Rust. A slice passes as a pointer and a length, a struct
 // as a C structure.
+#![tactic(auto)]
+
 pub mod indexes;
 pub mod judgements;
 pub mod listings;

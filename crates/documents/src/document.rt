@@ -18,7 +18,7 @@ use rules::options::Settings;
 use token::cursor::{Cursor, Step};
 
 // Where a turn of the document loop ended; `over` says that it was the last.
-#[derive(Drop)]
+#[derive(Clone, Copy)]
 pub struct DocumentTurn {
     pub walk: NestWalk,
     pub over: bool,

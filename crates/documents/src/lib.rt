@@ -1,2 +1,4 @@
 // The document loop, proved equal to its rule.
+#![tactic(auto)]
+
 pub mod document;

@@ -1,2 +1,4 @@
 // Keys. Each function is proved equal to its rule.
+#![tactic(auto)]
+
 pub mod keys;

@@ -1,3 +1,5 @@
 // The four entries. This is what programs cite.
+#![tactic(auto)]
+
 pub mod entries;
 pub mod theorems;

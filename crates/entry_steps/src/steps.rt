@@ -17,7 +17,7 @@ use token::checked::Checked;
 use token::cursor::Cursor;
 
 // What an entry begins with: the answer for a list that the check refuses; else a cursor at its start, and nothing counted.
-#[derive(Drop)]
+#[derive(Clone, Copy)]
 pub enum Begun {
     Refused(Answer),
     Start(Cursor, Counts),

@@ -6,7 +6,7 @@ use rules::answer::Answer;
 
 // The refusal's number (0 if none), its place, and how many events and errors there are.
 #[repr(C)]
-#[derive(Drop)]
+#[derive(Clone, Copy)]
 pub struct ExportedAnswer {
     pub refusal: u32,
     pub place: usize,

@@ -2,7 +2,7 @@
 
 // The mode's number: 0 is crate mode, 1 brace mode.
 #[repr(C)]
-#[derive(Drop)]
+#[derive(Clone, Copy)]
 pub struct ExportedOptions {
     pub mode: u32,
 }

@@ -11,7 +11,7 @@ use index_entries::reading::HeaderAt;
 
 // The refusal's number (0 if none), how many headers there are, and how many bytes their index has, or would have.
 #[repr(C)]
-#[derive(Drop)]
+#[derive(Clone, Copy)]
 pub struct ExportedIndexed {
     pub refusal: u32,
     pub headers: usize,
@@ -21,7 +21,7 @@ pub struct ExportedIndexed {
 // 0 at the end of the bytes, 1 at an entry, 2 where there is none; of an entry 1 for an array table, the place of the open event, key parts,
 // events, and the position behind it, else zeros.
 #[repr(C)]
-#[derive(Drop)]
+#[derive(Clone, Copy)]
 pub struct ExportedHeader {
     pub found: u32,
     pub array: u32,

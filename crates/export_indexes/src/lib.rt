@@ -1,2 +1,4 @@
 // The structures of an index of headers as C has them.
+#![tactic(auto)]
+
 pub mod indexes;

@@ -1,2 +1,4 @@
 // The structures of lists of mistakes as C has them.
+#![tactic(auto)]
+
 pub mod listings;

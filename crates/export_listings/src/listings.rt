@@ -9,7 +9,7 @@ use text_listing::TextCheck;
 
 // The refusal's number (0 if none), its place, and how many mistakes there are.
 #[repr(C)]
-#[derive(Drop)]
+#[derive(Clone, Copy)]
 pub struct ExportedListed {
     pub refusal: u32,
     pub place: usize,
@@ -18,7 +18,7 @@ pub struct ExportedListed {
 
 // The refusal's number (0 if none) and its place; where the tokens start; how many records, events, errors and mistakes there are.
 #[repr(C)]
-#[derive(Drop)]
+#[derive(Clone, Copy)]
 pub struct ExportedCheck {
     pub refusal: u32,
     pub place: usize,

@@ -7,7 +7,7 @@ use judging::verdict::Verdict;
 
 // Whether the list fits; and if it was not judged, the refusal's number and its place, else 0 and 0.
 #[repr(C)]
-#[derive(Drop)]
+#[derive(Clone, Copy)]
 pub struct ExportedVerdict {
     pub fits: bool,
     pub refusal: u32,

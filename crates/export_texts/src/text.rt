@@ -8,7 +8,7 @@ use text_steps::theorems::text_verdicts_are_determined;
 
 // The refusal's number (0 if none) and its place; where the tokens start; how many records there are.
 #[repr(C)]
-#[derive(Drop)]
+#[derive(Clone, Copy)]
 pub struct ExportedLexed {
     pub refusal: u32,
     pub place: usize,
@@ -18,7 +18,7 @@ pub struct ExportedLexed {
 
 // The same, and how many events and errors there are.
 #[repr(C)]
-#[derive(Drop)]
+#[derive(Clone, Copy)]
 pub struct ExportedTextAnswer {
     pub refusal: u32,
     pub place: usize,

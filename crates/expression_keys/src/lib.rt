@@ -1,4 +1,6 @@
 // The first part of an expression's key.
+#![tactic(auto)]
+
 ghost use Rattle.std.specs.Prelude.{◌≡◌, List, ℕ};
 ghost use Rattle.token.specs.Tokens.{Tok, Good, Back};
 ghost use Rattle.rules.specs.Messages as messages;
@@ -13,7 +15,7 @@ use token::cursor::{Cursor, Token};
 
 // What is known when the first part of a key was emitted: where the walk of the rest starts, the counts, and what is said if no `=`
 // follows. The walk itself is `key_and_value` of crate expressions.
-#[derive(Drop)]
+#[derive(Clone, Copy)]
 pub struct KeyStart {
     pub cur: Cursor,
     pub n: Counts,

@@ -1,4 +1,6 @@
 // A value that opens no bracket, and what stands where a value should.
+#![tactic(auto)]
+
 ghost use Rattle.std.specs.Prelude.{◌≡◌};
 ghost use Rattle.token.specs.Tokens.{Good, Took, tokens_at};
 ghost use Rattle.rules.specs.Out.{done};

@@ -8,7 +8,7 @@ use rules::answer::EVENT_WORDS;
 
 // The number of the event that comes next; whether a header was met, and then: whether its key is still open, the place of its open event,
 // how many key parts it has so far, and whether it is an array table.
-#[derive(Drop)]
+#[derive(Clone, Copy)]
 pub struct IndexState {
     pub at: usize,
     pub found: bool,

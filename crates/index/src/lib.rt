@@ -1,5 +1,7 @@
 // The index of headers: for each table header of a quiet run the place of its open event, its key parts, whether it is an array table, and
 // how many events it has.
+#![tactic(auto)]
+
 pub mod refusals;
 pub mod theorems;
 pub mod walked;
@@ -19,7 +21,7 @@ use rules::answer::{Answer, EVENT_WORDS};
 use token::checked::MAX_RECORDS;
 
 // A refusal's number or 0, how many headers there are, and how many bytes their index has, or would have.
-#[derive(Drop)]
+#[derive(Clone, Copy)]
 pub struct Indexed {
     pub refusal: u32,
     pub headers: usize,

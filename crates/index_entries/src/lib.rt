@@ -1,3 +1,5 @@
 // One entry of the index of headers: written, and read again.
+#![tactic(auto)]
+
 pub mod entry;
 pub mod reading;

@@ -7,7 +7,7 @@ use crate::entry::ENTRY_SIZE;
 
 // An entry: place, key parts, whether it is an array table, events, and the position behind it. Or the position is the end of the bytes. Or
 // the bytes there are no entry.
-#[derive(Drop)]
+#[derive(Clone, Copy)]
 pub enum HeaderAt {
     Entry(usize, usize, bool, usize, usize),
     End,

@@ -1,4 +1,6 @@
 // Inline tables: what is to be done in each state at each kind of token.
+#![tactic(auto)]
+
 ghost use Rattle.std.specs.Prelude.{◌≡◌};
 ghost use Rattle.rules.specs.InlineTable.{action_of, wanted, encoding_at};
 ghost use Rattle.inline_actions.specs.Actions.{row_of, action_table};

@@ -1,4 +1,6 @@
 // What is done in an inline table where one event or report is not all: the middle of a turn, which then says what is next.
+#![tactic(auto)]
+
 ghost use Rattle.std.specs.Prelude.{◌≡◌, List, ℕ, ◌-◌, length};
 ghost use Rattle.token.specs.Tokens.{Tok, Good, tokens_at};
 ghost use Rattle.rules.specs.declared.skipping.Bracket.{Bracket};

@@ -9,7 +9,7 @@ use rules::inline_table::{Progress, State};
 use token::cursor::Cursor;
 
 // A turn, and how far the table is behind it.
-#[derive(Drop)]
+#[derive(Clone, Copy)]
 pub struct TableTurn {
     pub turn: Turn,
     pub progress: Progress,

@@ -3,7 +3,7 @@ ghost use Rattle.std.specs.Prelude.{◌≡◌};
 ghost use Rattle.judging.specs.Verdicts.{unjudged};
 
 // Whether the list fits; and if it was not judged, the refusal's number and its place, else 0 and 0.
-#[derive(Drop)]
+#[derive(Clone, Copy)]
 pub struct Verdict {
     pub fits: bool,
     pub refusal: u32,

@@ -13,7 +13,7 @@ use token::cursor::{Cursor, Step};
 use token::kind::Kind;
 
 // Where the walk over a key ended, the counts there, and whether the key was valid.
-#[derive(Drop)]
+#[derive(Clone, Copy)]
 pub struct KeyWalk {
     pub cur: Cursor,
     pub n: Counts,

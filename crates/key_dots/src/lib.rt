@@ -1,2 +1,4 @@
 // Dots in keys. Each function is proved equal to its rule.
+#![tactic(auto)]
+
 pub mod dots;

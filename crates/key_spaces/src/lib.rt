@@ -1,4 +1,6 @@
 // What stands before and behind the parts of a key: optional whitespace; and the report where the list ends.
+#![tactic(auto)]
+
 ghost use Rattle.std.specs.Prelude.{◌≡◌, List, [], ℕ};
 ghost use Rattle.token.specs.Tokens.{Good, tokens_at, all_tokens};
 ghost use Rattle.rules.specs.Keys.{opt_whitespace};

@@ -1,4 +1,6 @@
 // A turn of the document loop at a token with which no key starts, and no document ends.
+#![tactic(auto)]
+
 ghost use Rattle.token.specs.Tokens.{Good, tokens_at};
 ghost use Rattle.output.specs.Pour.{bufs};
 ghost use Rattle.output.specs.Walks.{Goes};

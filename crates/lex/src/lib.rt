@@ -1,4 +1,6 @@
 // From the bytes of a text to its token records.
+#![tactic(auto)]
+
 pub mod refusals;
 pub mod theorems;
 
@@ -16,7 +18,7 @@ use token::checked::MAX_END;
 use utf8::valid_up_to;
 
 // A refusal's number or 0, and its place; where the tokens start; and how many records they are, or would be.
-#[derive(Drop)]
+#[derive(Clone, Copy)]
 pub struct Lexed {
     pub refusal: u32,
     pub place: usize,

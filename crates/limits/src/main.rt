@@ -1,5 +1,7 @@
 // The program of the limits: runs the document entry on lists at a limit and just beyond it, and prints for each what came: the
 // answer, and the last event that the buffer holds. oracle/src/bin/limits.rs says the same by the oracle.
+#![tactic(auto)]
+
 mod showing;
 
 ghost use Rattle.std.specs.Prelude.{◌*◌, ◌≤◌, length};

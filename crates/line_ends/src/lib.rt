@@ -1,2 +1,4 @@
 // The ends of lines.
+#![tactic(auto)]
+
 pub mod line_end;

@@ -19,7 +19,7 @@ use rules::options::Mode;
 
 // The unexpected span of an error and its line; and the point and the comma that were found with them, from which the next error's are found. Along
 // the errors the places rise, but for one fall where the list ends: so the whole pass is linear.
-#[derive(Drop)]
+#[derive(Clone, Copy)]
 pub struct Placed {
     pub start: u32,
     pub end: u32,

@@ -9,7 +9,7 @@ use token::cursor::{Cursor, Step};
 use token::kind::{Kind, number_of};
 
 // A place in the list; and its line, one more than there are Newline tokens before it.
-#[derive(Drop)]
+#[derive(Clone, Copy)]
 pub struct LinePoint {
     pub cur: Cursor,
     pub line: u32,

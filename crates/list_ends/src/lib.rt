@@ -1,4 +1,6 @@
 // The end of the list, and what is left behind an entry's end.
+#![tactic(auto)]
+
 ghost use Rattle.token.specs.Tokens.{Good, tokens_at};
 ghost use Rattle.rules.specs.Skipping.{leftover, eof};
 ghost use Rattle.output.specs.Pour.{bufs};

@@ -1,6 +1,8 @@
 // The listing program: reads token records from standard input and prints what the document entry gives for them at base 0, an
 // event or an error a line. More than 3,072 bytes print `input too long`, a refusal prints `refused N place P`. Input that cannot be read to
 // its end is a line on standard error, and standard output stays empty.
+#![tactic(auto)]
+
 ghost use Rattle.std.specs.Prelude.{◌≤◌, length};
 
 use entries::entries::parse_document;

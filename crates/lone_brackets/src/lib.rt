@@ -1,4 +1,6 @@
 // A closing bracket where a value is wanted. Proved equal to its rule.
+#![tactic(auto)]
+
 ghost use Rattle.std.specs.Prelude.{◌≡◌, List};
 ghost use Rattle.token.specs.Tokens.{Tok};
 ghost use Rattle.rules.specs.WithoutOpen.{without_open};

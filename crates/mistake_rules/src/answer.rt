@@ -1,7 +1,7 @@
 // What the listing answers.
 
 // The refusal's number (0 if none), its place, and how many mistakes there are.
-#[derive(Drop)]
+#[derive(Clone, Copy)]
 pub struct Listed {
     pub refusal: u32,
     pub place: usize,

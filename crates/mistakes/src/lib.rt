@@ -1,4 +1,6 @@
 // The list of mistakes: the error records of a run, and what its events show that no record accounts for.
+#![tactic(auto)]
+
 pub mod listing;
 
 ghost use Rattle.std.specs.Prelude.{◌≡◌};

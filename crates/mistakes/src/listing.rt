@@ -18,7 +18,7 @@ use pieces::messages::expected_by;
 use pieces::pieces::{Found, Piece, next_piece};
 
 // How many mistakes there are so far, and the point up to which lines are counted.
-#[derive(Drop)]
+#[derive(Clone, Copy)]
 pub struct Noted {
     pub point: LinePoint,
     pub count: usize,

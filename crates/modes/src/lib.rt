@@ -1,4 +1,6 @@
 // How the two modes differ, as contracts of functions that do nothing.
+#![tactic(auto)]
+
 ghost use Rattle.std.specs.Prelude.{◌≡◌};
 ghost use Rattle.rules.specs.declared.options.Mode.{Mode};
 ghost use Rattle.rules.specs.Entries.{Entry};

@@ -1,4 +1,6 @@
 // Whether a key of a run is a multi-line string, by its event words. The Rust reads such a key with no report, but it is no key of TOML 1.0.0.
+#![tactic(auto)]
+
 ghost use Rattle.std.specs.Prelude.{◌≡◌, true, ◌↔◌, ◌*◌, ◌≤◌, length};
 ghost use Rattle.rules.specs.Answer.{event_size};
 ghost use Rattle.fitting.specs.Quiet.{multi_line_key};

@@ -23,7 +23,7 @@ use token::cursor::{Cursor, Token};
 const HELD: usize = 16;
 
 // Where a walk ended, and the counts there; `stopped` says that one more level was refused, just behind its bracket.
-#[derive(Drop)]
+#[derive(Clone, Copy)]
 pub struct NestWalk {
     pub cur: Cursor,
     pub n: Counts,

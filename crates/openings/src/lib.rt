@@ -1,4 +1,6 @@
 // The event of the bracket that opens an array or an inline table.
+#![tactic(auto)]
+
 ghost use Rattle.std.specs.Prelude.{◌≡◌, List, ℕ};
 ghost use Rattle.token.specs.Tokens.{Tok};
 ghost use Rattle.rules.specs.Receiver as receiver;

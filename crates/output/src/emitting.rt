@@ -15,14 +15,14 @@ use rules::event::{Encoding, Event};
 use token::cursor::{Cursor, Token};
 
 // How many events and errors there are so far.
-#[derive(Drop)]
+#[derive(Clone, Copy)]
 pub struct Counts {
     pub events: usize,
     pub errors: usize,
 }
 
 // Where a walk ended, and the counts there.
-#[derive(Drop)]
+#[derive(Clone, Copy)]
 pub struct Walk {
     pub cur: Cursor,
     pub n: Counts,

@@ -9,7 +9,7 @@ use crate::sorts::{Sort, sort_at};
 use rules::answer::EVENT_WORDS;
 
 // What is wrong: a message, and the span it is about.
-#[derive(Drop)]
+#[derive(Clone, Copy)]
 pub struct Piece {
     pub message: u32,
     pub start: u32,
@@ -17,14 +17,14 @@ pub struct Piece {
 }
 
 // Where skipped text ends, and the event behind it.
-#[derive(Drop)]
+#[derive(Clone, Copy)]
 pub struct Skip {
     pub end: u32,
     pub next: usize,
 }
 
 // The next piece and the event behind it, or none.
-#[derive(Drop)]
+#[derive(Clone, Copy)]
 pub enum Found {
     Piece(Piece, usize),
     Nothing,

@@ -8,7 +8,7 @@ use multi_line_keys::is_multi_line_key;
 use rules::answer::EVENT_WORDS;
 
 // Skipped text; whitespace; wrong, with its message; anything else.
-#[derive(Drop)]
+#[derive(Clone, Copy)]
 pub enum Sort {
     Skipped,
     Blank,

@@ -1,5 +1,7 @@
 // Looking through a text from a place on: a byte at a place, and bytes that a token goes on with whatever they are next to, passed
 // thirty-two at a time.
+#![tactic(auto)]
+
 pub mod plain;
 
 ghost use Rattle.std.specs.Prelude.{◌≡◌, drop};

@@ -1,4 +1,6 @@
 // What is asked of records when a list is checked: each by itself, and a stretch of them.
+#![tactic(auto)]
+
 ghost use Rattle.std.specs.Prelude.{◌≡◌, ◌+◌, ◌<◌, ◌≤◌, eqb};
 ghost use Rattle.token.specs.Limits.{max_records};
 ghost use Rattle.token.specs.Records.{count};

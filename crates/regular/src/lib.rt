@@ -1,4 +1,6 @@
 // Whether a list of token records is as the grammar supposes: one Eof, at the end, and no two Whitespace in a row.
+#![tactic(auto)]
+
 ghost use Rattle.std.specs.Prelude.{◌≡◌, true, ◌↔◌};
 ghost use Rattle.token.specs.Kinds.{kind_of};
 ghost use Rattle.token.specs.Tokens.{all_tokens};

@@ -5,7 +5,7 @@ pub const EVENT_WORDS: usize = 4;
 pub const ERROR_WORDS: usize = 7;
 
 // The refusal's number (0 if none), its place, and how many events and errors there are.
-#[derive(Drop)]
+#[derive(Clone, Copy)]
 pub struct Answer {
     pub refusal: u32,
     pub place: usize,

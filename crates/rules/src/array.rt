@@ -1,13 +1,13 @@
 // The classes of kinds that arrays go by, and an array's state.
 // What an array wants next.
-#[derive(Drop)]
+#[derive(Clone, Copy)]
 pub enum ArrayState {
     NeedsValue,
     NeedsComma,
 }
 
 // What a kind is to an array.
-#[derive(Drop)]
+#[derive(Clone, Copy)]
 pub enum InArray {
     Whitespace,
     Comment,

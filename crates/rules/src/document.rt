@@ -2,7 +2,7 @@
 use crate::event::Encoding;
 
 // What a kind is to the start of an expression.
-#[derive(Drop)]
+#[derive(Clone, Copy)]
 pub enum InDocument {
     OpenSquare,
     CloseSquare,

@@ -1,5 +1,5 @@
 // The events, and how a key or a scalar is written.
-#[derive(Drop)]
+#[derive(Clone, Copy)]
 pub enum Encoding {
     None,
     LiteralString,
@@ -8,7 +8,7 @@ pub enum Encoding {
     MlBasicString,
 }
 
-#[derive(Drop)]
+#[derive(Clone, Copy)]
 pub enum Event {
     StdTableOpen,
     StdTableClose,

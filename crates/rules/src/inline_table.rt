@@ -1,7 +1,7 @@
 // An inline table's state, and the actions of its machine.
 
 // What an inline table wants next.
-#[derive(Drop)]
+#[derive(Clone, Copy)]
 pub enum State {
     NeedsKey,
     NeedsEquals,
@@ -10,14 +10,14 @@ pub enum State {
 }
 
 // The state, and whether nothing was read yet.
-#[derive(Drop)]
+#[derive(Clone, Copy)]
 pub struct Progress {
     pub state: State,
     pub empty: bool,
 }
 
 // What is done at a token, by the state and the token's kind.
-#[derive(Drop)]
+#[derive(Clone, Copy)]
 pub enum Action {
     Whitespace,
     Comment,

@@ -2,7 +2,7 @@
 use crate::event::Encoding;
 
 // What a kind is to a key.
-#[derive(Drop)]
+#[derive(Clone, Copy)]
 pub enum InKey {
     Part(Encoding),
     Whitespace,

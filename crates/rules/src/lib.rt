@@ -1,4 +1,6 @@
 // What is right: the rules of document.rs as definitions in specs/, and here the types that the rules and the code share.
+#![tactic(auto)]
+
 pub mod answer;
 pub mod array;
 pub mod document;

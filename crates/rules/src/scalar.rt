@@ -2,7 +2,7 @@
 use crate::event::Encoding;
 
 // What a kind is to the start of a scalar.
-#[derive(Drop)]
+#[derive(Clone, Copy)]
 pub enum Starting {
     Quoted(Encoding),
     Unquoted,
@@ -10,7 +10,7 @@ pub enum Starting {
 }
 
 // What a kind is to an unquoted scalar that was begun.
-#[derive(Drop)]
+#[derive(Clone, Copy)]
 pub enum InScalar {
     Dot,
     Atom,

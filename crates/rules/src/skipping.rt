@@ -1,19 +1,19 @@
 // The classes of kinds that the skipping of lines and of values goes by, and its counts.
-#[derive(Drop)]
+#[derive(Clone, Copy)]
 pub enum Bracket {
     Square,
     Curly,
 }
 
 // How many arrays and inline tables were opened while a value is skipped.
-#[derive(Drop)]
+#[derive(Clone, Copy)]
 pub struct Opened {
     pub arrays: usize,
     pub tables: usize,
 }
 
 // What a kind is to a line that is skipped or ended.
-#[derive(Drop)]
+#[derive(Clone, Copy)]
 pub enum InLine {
     Whitespace,
     Comment,
@@ -23,7 +23,7 @@ pub enum InLine {
 }
 
 // What a kind is to a value that is skipped up to its closing bracket.
-#[derive(Drop)]
+#[derive(Clone, Copy)]
 pub enum InClose {
     Whitespace,
     Comment,

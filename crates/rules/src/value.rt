@@ -1,6 +1,6 @@
 // The classes of kinds where a value is wanted.
 // What a kind is to a value that is wanted.
-#[derive(Drop)]
+#[derive(Clone, Copy)]
 pub enum InValue {
     Nothing,
     Equals,

@@ -1,2 +1,4 @@
 // Scalars. Each function is proved equal to its rule.
+#![tactic(auto)]
+
 pub mod scalar;

@@ -13,14 +13,14 @@ use token::cursor::{Cursor, Step, Token};
 use token::kind::Kind;
 
 // How far an unquoted scalar goes: the cursor past it, and where it ends.
-#[derive(Drop)]
+#[derive(Clone, Copy)]
 pub struct Reach {
     pub cur: Cursor,
     pub end: u32,
 }
 
 // What a scalar is, and how far it goes.
-#[derive(Drop)]
+#[derive(Clone, Copy)]
 pub struct Extent {
     pub cur: Cursor,
     pub end: u32,

@@ -2,7 +2,7 @@
 use token::kind::Kind;
 
 // The kind of a token, and where it ends.
-#[derive(Drop)]
+#[derive(Clone, Copy)]
 pub struct Found {
     pub end: usize,
     pub kind: Kind,

@@ -1,6 +1,6 @@
 // The classes of bytes that a token starts with.
 
-#[derive(Drop)]
+#[derive(Clone, Copy)]
 pub enum Start {
     Dot,
     Equals,

@@ -1,4 +1,6 @@
 // A simple key: one part.
+#![tactic(auto)]
+
 ghost use Rattle.token.specs.Tokens.{Good, tokens_at};
 ghost use Rattle.rules.specs.Keys.{simple_key};
 ghost use Rattle.output.specs.Pour.{bufs};

@@ -1,4 +1,6 @@
 // What stands where the one part of a simple key should: the part, or something else.
+#![tactic(auto)]
+
 ghost use Rattle.token.specs.Tokens.{Good, tokens_at};
 ghost use Rattle.rules.specs.Keys.{on_missing_key, simple_part};
 ghost use Rattle.rules.specs.Skipping.{in_line};

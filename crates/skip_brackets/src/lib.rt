@@ -1,2 +1,4 @@
 // Skipping to a closing bracket, proved equal to its rule.
+#![tactic(auto)]
+
 pub mod brackets;

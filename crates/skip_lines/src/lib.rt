@@ -1,2 +1,4 @@
 // Skipping. Each function is proved equal to its rule.
+#![tactic(auto)]
+
 pub mod skipping;

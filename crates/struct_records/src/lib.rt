@@ -1,4 +1,6 @@
 // Token structs as records: a list of structs copied into records, and the answer to a list that is too long. It calls no entry.
+#![tactic(auto)]
+
 pub mod theorems;
 
 ghost use Rattle.std.specs.Prelude.{◌≡◌, ◌++◌, ◌+◌, ◌*◌, ◌≤◌, ltb, length, drop};
@@ -13,7 +15,7 @@ use writing::put_record;
 
 // A token: its length in bytes, and the number of its kind.
 #[repr(C)]
-#[derive(Drop)]
+#[derive(Clone, Copy)]
 pub struct Token {
     pub length: u32,
     pub kind: u16,

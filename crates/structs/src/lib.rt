@@ -1,4 +1,6 @@
 // The document entry over a lent list of token structs: they are copied into records, and the byte form parses these.
+#![tactic(auto)]
+
 ghost use Rattle.std.specs.Prelude.{◌*◌, ◌≤◌, length, take};
 ghost use Rattle.rules.specs.Entries.{document_entry};
 ghost use Rattle.choices.specs.Modes.{AnswersIn};

@@ -1,4 +1,6 @@
 // The ends of table headers: closed, and not closed.
+#![tactic(auto)]
+
 ghost use Rattle.token.specs.Tokens.{Good, tokens_at};
 ghost use Rattle.rules.specs.Table.{closed, unclosed};
 ghost use Rattle.output.specs.Pour.{bufs};

@@ -1,4 +1,6 @@
 // The keys of an inline table.
+#![tactic(auto)]
+
 ghost use Rattle.std.specs.Prelude.{◌∷◌, ◌-◌};
 ghost use Rattle.token.specs.Tokens.{tok, Good, tokens_at};
 ghost use Rattle.rules.specs.Out.{◌▹◌};

@@ -1,4 +1,6 @@
 // The list of a text's mistakes, from what the joined entry read of it; as definitions, with the theorems about it. Nothing is read here.
+#![tactic(auto)]
+
 pub mod theorems;
 
 ghost use Rattle.std.specs.Prelude.{◌≡◌};
@@ -10,7 +12,7 @@ use rules::answer::Answer;
 use text_rules::answer::TextAnswer;
 
 // As the joined entry's answer, and how many mistakes there are. The text fits exactly if there is no refusal and no mistake.
-#[derive(Drop)]
+#[derive(Clone, Copy)]
 pub struct TextCheck {
     pub refusal: u32,
     pub place: usize,

@@ -1,4 +1,6 @@
 // From a text to its mistakes, by one call.
+#![tactic(auto)]
+
 ghost use Rattle.text_listing.specs.Checking.{ChecksText};
 
 use rules::options::{Mode, Options};

@@ -1,5 +1,7 @@
 // The records of a text's tokens. What a token is goes by the code of its first byte, and each case writes its own record: most
 // tokens are a byte that is one by itself, a space, or an atom.
+#![tactic(auto)]
+
 ghost use Rattle.std.specs.Prelude.{◌≡◌, ◌++◌, ◌+◌, ◌*◌, ◌<◌, ◌≤◌, length, drop};
 ghost use Rattle.token.specs.Writing.{records_of};
 ghost use Rattle.scan.specs.Lexer.{tokens_from};

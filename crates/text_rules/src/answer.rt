@@ -1,7 +1,7 @@
 // What the joined entry answers.
 
 // The refusal's number (0 if none) and its place; where the tokens start; how many records, events and errors there are.
-#[derive(Drop)]
+#[derive(Clone, Copy)]
 pub struct TextAnswer {
     pub refusal: u32,
     pub place: usize,

@@ -8,7 +8,7 @@ use text_rules::answer::TextAnswer;
 use token::checked::MAX_RECORDS;
 
 // The answer to a text that is not read; else where its tokens start, and how many records are to be read.
-#[derive(Drop)]
+#[derive(Clone, Copy)]
 pub enum TextBegun {
     Refused(TextAnswer),
     Read(u32, usize),

@@ -7,7 +7,7 @@ use lex::lex;
 use token::checked::MAX_RECORDS;
 
 // The verdict on a text that is not judged; else where its tokens start, and how many records are to be judged.
-#[derive(Drop)]
+#[derive(Clone, Copy)]
 pub enum VerdictBegun {
     Unjudged(Verdict),
     Judge(u32, usize),

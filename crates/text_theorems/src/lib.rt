@@ -1,2 +1,4 @@
 // Demand 3 said of a text.
+#![tactic(auto)]
+
 pub mod theorems;

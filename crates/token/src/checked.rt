@@ -5,7 +5,7 @@ pub const MAX_RECORDS: usize = 65536;
 
 pub const MAX_END: usize = 16777216;
 
-#[derive(Drop)]
+#[derive(Clone, Copy)]
 pub enum Checked {
     Passed,
     Refused(u32, usize),

@@ -5,7 +5,7 @@ ghost use Rattle.token.specs.Tokens.{Good, At, Next, NextIf, Peek, Back};
 use crate::kind::{Kind, number_of};
 use crate::record::{kind_at, length_at};
 
-#[derive(Drop)]
+#[derive(Clone, Copy)]
 pub struct Token {
     pub kind: Kind,
     pub start: u32,
@@ -13,7 +13,7 @@ pub struct Token {
 }
 
 // The index of the next record, where that record's text starts, and where the whole text starts.
-#[derive(Drop)]
+#[derive(Clone, Copy)]
 pub struct Cursor {
     pub at: usize,
     pub place: u32,
@@ -21,21 +21,21 @@ pub struct Cursor {
 }
 
 // A token and the cursor past it, or the end of the list.
-#[derive(Drop)]
+#[derive(Clone, Copy)]
 pub enum Step {
     Got(Token, Cursor),
     Done,
 }
 
 // A token that was looked at and not taken.
-#[derive(Drop)]
+#[derive(Clone, Copy)]
 pub enum Seen {
     Token(Token),
     Nothing,
 }
 
 // What a search backward looks for: a token that is no Whitespace, Comment, Newline or Eof; a Comma; one that is no Whitespace.
-#[derive(Drop)]
+#[derive(Clone, Copy)]
 pub enum Sought {
     Significant,
     Comma,

@@ -2,7 +2,7 @@
 ghost use Rattle.std.specs.Prelude.{◌≡◌};
 ghost use Rattle.token.specs.Kinds.{kind_of, number_of};
 
-#[derive(Drop)]
+#[derive(Clone, Copy)]
 pub enum Kind {
     Dot,
     Equals,
@@ -23,7 +23,7 @@ pub enum Kind {
 }
 
 // What a kind is to a search backward.
-#[derive(Drop)]
+#[derive(Clone, Copy)]
 pub enum InSearch {
     Whitespace,
     Trivia,

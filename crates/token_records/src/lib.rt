@@ -1,4 +1,6 @@
 // The record of a token, by what the token starts with.
+#![tactic(auto)]
+
 ghost use Rattle.std.specs.Prelude.{◌≡◌, ℕ, ◌+◌, ◌*◌, ◌<◌, ◌≤◌, length, get_or};
 ghost use Rattle.token.specs.Writing.{put_at};
 ghost use Rattle.scan.specs.Bytes.{space, quotation_mark, apostrophe};

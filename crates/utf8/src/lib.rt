@@ -1,4 +1,6 @@
 // How far a text is well-formed UTF-8.
+#![tactic(auto)]
+
 pub mod theorems;
 
 ghost use Rattle.std.specs.Prelude.{◌≡◌, cond, ◌<◌, ◌≤◌, ◌+◌, length, drop};

@@ -1,4 +1,6 @@
 // One sequence of UTF-8: how long it is, if it is well-formed.
+#![tactic(auto)]
+
 ghost use Rattle.std.specs.Prelude.{◌≡◌, [], ◌∷◌, cond, ◌<◌, ◌≤◌, ◌+◌, length, drop};
 ghost use Rattle.places.specs.Places.{peeks};
 ghost use Rattle.utf8_sequences.specs.Utf8.{from, within, tail, table, fits, sequence_of};

@@ -1,2 +1,4 @@
 // Values. Each function is proved equal to its rule.
+#![tactic(auto)]
+
 pub mod value;

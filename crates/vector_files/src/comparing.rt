@@ -5,7 +5,7 @@ use rules::answer::Answer;
 // What both buffers hold beforehand. No word that an entry writes is this one, since none is above 16,777,216.
 pub const UNTOUCHED: u32 = 0xA5C3F00D;
 
-#[derive(Drop)]
+#[derive(Clone, Copy)]
 pub enum Compared {
     Same,
     Differs,

@@ -2,7 +2,7 @@
 ghost use Rattle.std.specs.Prelude.{◌+◌, ◌<◌, ◌≤◌, length};
 
 // A list at an entry with its room, and what the oracle answers.
-#[derive(Drop)]
+#[derive(Clone, Copy)]
 pub struct Case {
     pub entry: u32,
     pub base: u32,
@@ -17,7 +17,7 @@ pub struct Case {
     pub error_words: u32,
 }
 
-#[derive(Drop)]
+#[derive(Clone, Copy)]
 pub enum Frame {
     // The end, with the number of cases before it.
     End(u64),

@@ -1,7 +1,7 @@
 // What was counted so far, and the lines that say so.
 use crate::frames::{first_filled, whole_words};
 
-#[derive(Drop)]
+#[derive(Clone, Copy)]
 pub struct Tally {
     // Whether a class has begun, and its lists and how many of them differ.
     open: bool,
@@ -12,7 +12,7 @@ pub struct Tally {
     differ: u64,
 }
 
-#[derive(Drop)]
+#[derive(Clone, Copy)]
 pub enum Class {
     New(Tally),
     Broken,

@@ -1,6 +1,8 @@
 // The replay program: replays the lists in the file vectors.bin on the four entries, and holds what comes to what the oracle answered:
 // the answer, the words that were written, and those that must stay untouched. Prints a line for each class of lists, with how many
 // there are and how many differ, and one for all. oracle/src/frame.rs says what the file has in it; oracle/expected makes it.
+#![tactic(auto)]
+
 mod replay;
 
 use crate::replay::replay;
@@ -9,7 +11,7 @@ use vector_files::frames::{Frame, read_frame};
 use vector_files::tally::{Class, Tally, new_class};
 
 // What is left to do after a frame.
-#[derive(Drop)]
+#[derive(Clone, Copy)]
 enum After {
     Next(Tally),
     End,

@@ -22,7 +22,7 @@ fn parse(entry: u32, s: &[u8], base: u32, events: &mut [u32], errors: &mut [u32]
 }
 
 // What came of a list; or the case is wrong, since there is no such entry, or the list or a buffer would be too long.
-#[derive(Drop)]
+#[derive(Clone, Copy)]
 enum Ran {
     Answered(Answer),
     Wrong,

@@ -1,4 +1,6 @@
 // The record writer: length and kind of a record, as docs/LAYOUT.md has them.
+#![tactic(auto)]
+
 ghost use Rattle.std.specs.Prelude.{◌≡◌, ◌+◌, ◌*◌, ◌≤◌, length};
 ghost use Rattle.token.specs.Writing.{put_at};
 
