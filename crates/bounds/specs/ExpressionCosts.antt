@@ -7,8 +7,10 @@ use Rattle.token.specs.Kinds.{number_of}
 use Rattle.token.specs.Tokens.{Tok, tok}
 use Rattle.rules.specs.declared.skipping.Bracket.{Bracket}
 use Rattle.rules.specs.declared.value.InValue.{InValue}
-use Rattle.rules.specs.Out.{Out, done, ◌then◌}
+use Rattle.rules.specs.Out.{span, after, report, Out, done, ◌▹◌, ◌then◌}
 use Rattle.rules.specs.Messages as message
+use Rattle.rules.specs.Expected as expected
+use Rattle.rules.specs.Receiver as receiver
 use Rattle.rules.specs.Skipping.{ignore_to_newline, ws_comment_newline}
 use Rattle.rules.specs.Keys.{opt_whitespace, opt_dot_keys, key_valid}
 use Rattle.rules.specs.Scalar.{on_scalar}
@@ -57,7 +59,8 @@ unclosed_costs false true a b ts = let p : Costs ts 0 0 (ignore_to_newline ts) =
 closed_costs : (array : Bool) (a c d : ℕ) (ts : List Tok) → Costs ts 3 3 (closed array a c d ts)
 closed_costs false a c d ts = let p : Costs ts 0 0 (ws_comment_newline ts) = ws_comment_newline_costs ts in omega arith
 closed_costs true a c d ts =
-    next_token_costs RightSquareBracket _ _ 3 3
+    next_token_costs RightSquareBracket (λ e f us. receiver.array_table_close c f ▹ ws_comment_newline us)
+    (λ us. report message.unclosed_array_table expected.close_square (span a d) (after c d) ▹ ignore_to_newline us) 3 3
     (λ e f us. let p : Costs us 0 0 (ws_comment_newline us) = ws_comment_newline_costs us in omega arith)
     (λ us. let p : Costs us 0 0 (ignore_to_newline us) = ignore_to_newline_costs us in omega arith)
     ts
@@ -71,7 +74,8 @@ header_costs array a b ts =
 -- the table's first bracket is not among ts
 pub on_table_costs : (a b : ℕ) (ts : List Tok) → Costs ts 2 2 (on_table a b ts)
 on_table_costs a b ts =
-    next_token_costs LeftSquareBracket _ _ 2 2
+    next_token_costs LeftSquareBracket (λ c d us. receiver.array_table_open a d ▹ header true a b us)
+    (λ us. receiver.std_table_open a b ▹ header false a b us) 2 2
     (λ c d us. let p : Costs us 1 2 (header true a b us) = header_costs true a b us in omega arith)
     (λ us. let p : Costs us 1 2 (header false a b us) = header_costs false a b us in omega arith)
     ts

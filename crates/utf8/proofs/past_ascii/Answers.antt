@@ -1,0 +1,16 @@
+-- A byte a turn, behind the thirty-twos.
+use Prim.Native.Nat.{◌-◌}
+use Rattle.utf8_sequences.specs.Utf8Laws.{ascii_passed}
+use Rattle.utf8.proofs.past_ascii.Goals as goal
+
+pub loop-i-init : goal.loop-i-init
+loop-i-init c = c.past_ascii_by_thirty_two-i.ensures
+
+pub loop-i-preserved : goal.loop-i-preserved
+loop-i-preserved c = ascii_passed c.loop-i.invariant c.loop-i-test.true c.if-text-i-lt128.true
+
+pub returns-else-text-i-lt128 : goal.returns-else-text-i-lt128
+returns-else-text-i-lt128 c = c.loop-i.invariant
+
+pub returns : goal.returns
+returns c = c.loop-i.invariant
