@@ -6,7 +6,7 @@ use mathlib.Core.Logic.{◌↔◌}
 use mathlib.Core.List.{List, [], ◌∷◌}
 use Prim.Native.Nat.{ℕ, ◌-◌, ◌≤◌}
 use native.Mathlib.Omega.{arith}
-use lib.ListN.{length}
+use lib.ListN.{length, get_or}
 use Rattle.token.specs.declared.kind.Kind.TheVariants.{Eof}
 use Rattle.token.specs.Tokens.{Tok, tok}
 use Rattle.token.specs.Laid.{Laid, laid_token}
@@ -65,9 +65,18 @@ module _ (P : Parts) (base : ℕ) (ts : List Tok) (laid : Laid base ts) (regular
 pub nesting_exact : (P : Parts) (ts : List Tok) → FitsBy P max_depth ts ↔ (((n : ℕ) × FitsBy P n ts) × NestedWithin max_depth ts)
 nesting_exact P ts = (λ d. ((max_depth, d), within_fits (max_depth - 2) d), λ f. fits_within f.0.0 max_depth f.0.1 f.1)
 
+-- where events end that begin at p: by the last word of the last of them
+last_end : ℕ → List (List ℕ) → ℕ
+last_end p [] = p
+last_end p (words ∷ events) = last_end (get_or words 3 0) events
+
+ends_at : {p q : ℕ} {events : List (List ℕ)} → EndToEnd p events q → q ≡ last_end p events
+unfolding last_end
+ends_at no_event = refl
+ends_at (an_event h) = ends_at h
+
 ends_once : {p q r : ℕ} {events : List (List ℕ)} → EndToEnd p events q → EndToEnd p events r → q ≡ r
-ends_once no_event no_event = refl
-ends_once (an_event h) (an_event g) = ends_once h g
+ends_once h g = ends_at h ∙ sym (ends_at g)
 
 eof_same : {q r a b c d : ℕ} → q ≡ r → Laid q (tok Eof a b ∷ []) → Laid r (tok Eof c d ∷ []) → SameButForCuts [] (tok Eof a b ∷ []) (tok Eof c d ∷ [])
 eof_same {q} {r} {a} {b} {c} {d} e (laid_token w l) (laid_token w' m) = subst₂ (λ x y. SameButForCuts [] (tok Eof q b ∷ []) (tok Eof x y ∷ [])) e (w ∙ e ∙ sym w') same_rest

@@ -7,7 +7,7 @@ use Rattle.token.specs.declared.kind.Kind.{Kind}
 use Rattle.token.specs.declared.kind.Kind.TheVariants.{LeftSquareBracket, Atom, Eof}
 use Rattle.token.specs.Kinds.{number_of}
 use Rattle.token.specs.Tokens.{Tok, tok}
-use Rattle.fitting.specs.Grammar.{no_whitespace, literal, basic, multi_line_literal, multi_line_basic, Parts, SingleLine, KeyPart, atom_part, string_part, no_dot, a_key, it_is_dot, it_is_atom, a_string, unquoted_scalar, Inside, Value, a_scalar, an_array, an_inline_table, a_pair, table_header, no_expression, pair_expression, header_expression, no_comment, Line, a_line, line_and_more, last_line, Fits, FitsWide}
+use Rattle.fitting.specs.Grammar.{no_whitespace, literal, basic, multi_line_literal, multi_line_basic, Parts, SingleLine, KeyPart, atom_part, string_part, no_dot, a_dot, a_key, it_is_dot, it_is_atom, a_string, unquoted_scalar, Inside, Value, a_scalar, an_array, an_inline_table, a_pair, table_header, no_expression, pair_expression, header_expression, no_comment, Line, a_line, line_and_more, last_line, Fits, FitsWide}
 use Rattle.fitting.specs.Premises.{EndToEnd, an_event, OpenBracket, open_array, open_inline_table, opens, closes, Changes, opens_one, closes_last, Nests, nests_event, SameButForCuts, same_token, same_two_tokens, cut_otherwise}
 use Rattle.fitting.proofs.KeyWords.{allowed}
 use Rattle.fitting.specs.RuledOut.{with_gap, crossing, key_events, key_whole, key_cut, without_value, multi_line_header}
@@ -57,6 +57,9 @@ value_first (an_inline_table i) e = omega (arith, ap number_of e)
 without_value_line : {P : Parts} {N : Inside} {k : Kind} {a b : ℕ} {rest : List Tok} → (k ≡ Atom → ⊥) → Line P N without_value (tok k a b ∷ rest) → ⊥
 without_value_line n (a_line no_whitespace no_expression no_whitespace no_comment) = n refl
 without_value_line n (a_line no_whitespace (pair_expression (a_pair (a_key (atom_part l) no_dot) no_whitespace no_whitespace v)) w c) = value_first v refl
+without_value_line n (a_line no_whitespace (pair_expression (a_pair (a_key (atom_part l) (a_dot x _ _ _)) _ _ v)) w c) = elim x [ ]
+without_value_line n (a_line no_whitespace (pair_expression (a_pair (a_key (string_part x _) _) _ _ v)) w c) = elim x [ ]
+without_value_line n (a_line no_whitespace (header_expression x) w c) = elim x [ ]
 
 pub without_value_ruled_out : Fits without_value → ⊥
 without_value_ruled_out (n, line_and_more l d) = without_value_line (λ e. omega (arith, ap number_of e)) l
@@ -75,6 +78,7 @@ multi_line_header_line : {N : Inside} {k : Kind} {a b : ℕ} {rest : List Tok} �
 multi_line_header_line n (a_line no_whitespace no_expression no_whitespace no_comment) = n refl
 multi_line_header_line n (a_line no_whitespace (pair_expression (a_pair (a_key p d) w x v)) y c) = part_first p refl
 multi_line_header_line n (a_line no_whitespace (header_expression (table_header no_whitespace (a_key (string_part multi_line_basic l) no_dot) no_whitespace)) w c) = (allowed l).1 refl
+multi_line_header_line n (a_line no_whitespace (header_expression (table_header no_whitespace (a_key (string_part multi_line_basic l) (a_dot _ _ _ _)) _)) w c) = elim l [ ]
 
 pub multi_line_header_ruled_out : Fits multi_line_header → ⊥
 multi_line_header_ruled_out (n, line_and_more l d) = multi_line_header_line (λ e. omega (arith, ap number_of e)) l

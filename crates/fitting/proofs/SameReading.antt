@@ -150,7 +150,7 @@ two_same : {kind encoding : ℕ} {es : List (List ℕ)} {k l : Kind} {a b c d : 
 two_same {kind} {encoding} {es} {k} {l} {a} {b} {c} {d} {ts} {us} e f h =
     subst₂ (λ x y. SameButForCuts ((kind ∷ encoding ∷ a ∷ d ∷ []) ∷ es) (tok k a b ∷ tok k b d ∷ ts) (tok x a y ∷ tok x y d ∷ us)) e f (same_two_tokens h)
 
-pub reads_same : {P : Parts} (all : List Tok) {is : List Item} {ts vs us ws : List Tok} {p : ℕ} {σ τ σ' τ' : List OpenBracket} → Reads P is ts vs σ τ → Reads P is us ws σ' τ' → Laid p ts → Laid p us → SameButForCuts [] vs ws → SameButForCuts (events_of all is) ts us
+pub reads_same : {P : Parts} (all : List Tok) {is : List Item} {ts vs us ws : List Tok} {p p' : ℕ} {σ τ σ' τ' : List OpenBracket} → Reads P is ts vs σ τ → Reads P is us ws σ' τ' → Laid p ts → Laid p' us → SameButForCuts [] vs ws → SameButForCuts (events_of all is) ts us
 reads_same all read_none read_none l m h = h
 reads_same all (read_one {g = g} {is = is} {ts = ts} o r) (read_one {k = k} {a = a} {b = b} {ts = us} o' r') (laid_token w l) (laid_token w' m) h =
     subst (λ x. SameButForCuts (events_of all (event g a b ∷ is)) (tok x a b ∷ ts) (tok k a b ∷ us)) (sym (one_kind o') ∙ one_kind o) (same_token (reads_same all r r' l m h))
@@ -158,6 +158,8 @@ reads_same all (read_one o r) (read_two o' r') l m h = absurd (one_two o o')
 reads_same all (read_one o r) (read_unquoted d u e r') l m h = absurd (one_scalar o)
 reads_same all (read_two o r) (read_one o' r') l m h = absurd (one_two o' o)
 reads_same all (read_two o r) (read_two o' r') (laid_token w (laid_token x l)) (laid_token w' (laid_token x' m)) h = two_same (sym (two_kind o) ∙ two_kind o') (two_wide o w ∙ sym (two_wide o' w')) (reads_same all r r' l m h)
+reads_same all (read_two o r) (read_unquoted d u e r') l m h = elim o [ ]
+reads_same all (read_unquoted d u e r) (read_two o' r') l m h = elim o' [ ]
 reads_same all (read_unquoted d u e r) (read_one o' r') l m h = absurd (one_scalar o')
 reads_same all (read_unquoted {b = b} {ts = ts} {us = vs} d u e r) (read_unquoted {b = c} {ts = us} {us = ws} d' u' e' r') (laid_token w l) (laid_token w' m) h =
     cut_otherwise d d' u u' e e' (reads_same all r r' (subst (λ x. Laid x vs) e (unquoted_laid b u l).laid) (subst (λ x. Laid x ws) e' (unquoted_laid c u' m).laid) h)

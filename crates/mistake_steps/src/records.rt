@@ -8,7 +8,7 @@ use pieces::messages::{BRACKET_NOT_CLOSED, MULTI_LINE_STRING};
 use pieces::pieces::Piece;
 use rules::answer::ERROR_WORDS;
 
-fn goes_before_lem(start: u32, p: Piece) -> bool
+fn goes_before(start: u32, p: Piece) -> bool
     ensures { result ≡ goes_before start p }
 {
     let message = p.message;
@@ -42,7 +42,7 @@ pub fn passed_by(errors: &[u32], m: usize, r: usize, p: Piece) -> usize
     let mut j = r;
     while j < m {
         let start = errors[j * ERROR_WORDS + 4];
-        let before = goes_before_lem(start, p);
+        let before = goes_before(start, p);
         if before {
             j += 1;
         } else {

@@ -120,6 +120,7 @@ not_twice j k n = by (is_whitespace j) (is_whitespace k) refl refl
     by false u e f = ap (λ (x : Bool). both x (is_whitespace k)) e
 
 passes_complete : (j : Kind) (a b : ℕ) (ts : List Tok) → OneEofLast ts → NoAdjacentWhitespace (tok j a b ∷ ts) → passes (is_whitespace j) ts ≡ true
+passes_complete j a b [] x n = elim x [ ]
 passes_complete j a b (tok k c d ∷ []) only_eof n = refl
 passes_complete j a b (tok k c d ∷ ts) (before_eof e r) (not_both n h) = simp (not_eof k e, not_twice j k n) (passes_complete k c d ts r h)
 

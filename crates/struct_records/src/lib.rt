@@ -52,7 +52,7 @@ pub fn is_too_many(n: usize) -> bool
 }
 
 // The answer to more structs than there may be records: their number is refused, but an unknown mode before it.
-pub fn too_many_lem(mode: u32) -> Answer
+pub fn too_many(mode: u32) -> Answer
     ensures { result ≡ too_many mode }
 {
     let choice = choose(mode);

@@ -15,7 +15,7 @@ use denote.Builtin.{u32, usize}
 use denote.Steps.{nothing}
 use denote.Triple.Spec.{triple_of}
 use denote.Triple.Statement.{Contract}
-use Rattle.struct_records.specs.contracts.too_many_lem as many-fn
+use Rattle.struct_records.specs.contracts.too_many as many-fn
 use Rattle.struct_records.specs.contracts.is_too_many as told-fn
 
 module _ {M : Type 1} (𝓤 : Ura M) where

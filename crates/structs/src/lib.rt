@@ -9,7 +9,7 @@ ghost use Rattle.struct_records.specs.Structs.{records_of};
 use choices::modes::{Chosen, choose, unknown_mode};
 use entries::entries::parse_document;
 use rules::answer::Answer;
-use struct_records::{Token, copy, is_too_many, too_many_lem};
+use struct_records::{Token, copy, is_too_many, too_many};
 
 // Room for as many records as a list may have, six bytes each.
 const RECORD_BYTES: usize = 393216;
@@ -61,7 +61,7 @@ pub fn parse_tokens(
     ensures { AnswersIn mode document_entry (records_of tokens.now) base events.old errors.old events.new errors.new result }
 {
     if is_too_many(tokens.len()) {
-        return too_many_lem(mode);
+        return too_many(mode);
     }
     let mut records = [0; RECORD_BYTES];
     parse_in(mode, tokens, &mut records, base, events, errors)

@@ -62,10 +62,10 @@ use Rattle.structs.specs.contracts.parse_in as parse-in
 use Rattle.structs.proofs.parse_in.Symbol as parse-in-def
 use Rattle.structs.proofs.parse_in.Symbol.{name as #structs·parse-in}
 use Rattle.structs.proofs.parse_in.Met as parse-in-thm
-use Rattle.struct_records.specs.contracts.too_many_lem as many-fn
-use Rattle.struct_records.proofs.too_many_lem.Symbol as many-def
-use Rattle.struct_records.proofs.too_many_lem.Symbol.{name as #struct-records·too-many}
-use Rattle.struct_records.proofs.too_many_lem.Met as many-thm
+use Rattle.struct_records.specs.contracts.too_many as many-fn
+use Rattle.struct_records.proofs.too_many.Symbol as many-def
+use Rattle.struct_records.proofs.too_many.Symbol.{name as #struct-records·too-many}
+use Rattle.struct_records.proofs.too_many.Met as many-thm
 use Rattle.struct_records.specs.contracts.is_too_many as told-fn
 use Rattle.struct_records.proofs.is_too_many.Symbol as told-def
 use Rattle.struct_records.proofs.is_too_many.Symbol.{name as #struct-records·is-too-many}
