@@ -29,4 +29,4 @@ pub returns-in-Scalar : goal.returns-in-Scalar
 returns-in-Scalar c = goes_as (ap (λ (z : InValue). flat_value z c.args.t.kind c.args.t.start c.args.t.end (tokens_at c.args.s.now c.args.c) (done (tokens_at c.args.s.now c.args.from))) (sym c.in-Scalar.is)) (goes_past c.requires.1 c.on_scalar.ensures)
 
 pub returns-in_default : goal.returns-in_default
-returns-in_default c = goes_as (unread c.args.x _ _ _ _ _ (opened c.in_default.in_default-own.keys5)) (goes_by _ _ _ _ _ _ (λ base q. run_done _ _ _ _ _ _) c.requires.0 (omega arith) refl)
+returns-in_default c = goes_as (unread c.args.x _ _ _ _ _ c.in_default.in_default-own.keys5) (goes_by _ _ _ _ _ _ (λ base q. run_done _ _ _ _ _ _) c.requires.0 (omega arith) refl)

@@ -1,4 +1,5 @@
 -- The table's entry, and the action of its number.
+use Rattle.std.proofs.Common.{sym, ◌∙◌}
 use native.Mathlib.Omega.{arith}
 use Rattle.token.specs.KindLaws.{number_range}
 use Rattle.inline_actions.proofs.ActionLaws.{action_from, table_entry, rest_action, row_small}

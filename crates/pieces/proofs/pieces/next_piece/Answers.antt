@@ -22,7 +22,7 @@ pub returns-in-Wrong : goal.returns-in-Wrong
 returns-in-Wrong c = found_wrong c.loop-at.invariant _ c.loop-at-test.true (sym c.sort_at-sort.ensures ∙ c.in-Wrong.is)
 
 pub loop-at-preserved : goal.loop-at-preserved
-loop-at-preserved c = seeking_past c.loop-at.invariant _ c.loop-at-test.true (sym c.sort_at-sort.ensures) (opened c.in_default.in_default-own.keys3)
+loop-at-preserved c = seeking_past c.loop-at.invariant _ c.loop-at-test.true (sym c.sort_at-sort.ensures) c.in_default.in_default-own.keys3
 
 pub returns : goal.returns
 returns c = found_none c.loop-at.invariant c.loop-at-test.false

@@ -18,7 +18,7 @@ pub loop-at-preserved : goal.loop-at-preserved
 loop-at-preserved c = skipping_blank c.loop-at.invariant c.loop-at-test.true ((sym c.sort_at-sort.ensures ∙ c.in-Blank.is))
 
 pub returns-in_default : goal.returns-in_default
-returns-in_default c = skipped_over c.loop-at.invariant _ c.loop-at-test.true (sym c.sort_at-sort.ensures) (opened c.in_default.in_default-own.keys3)
+returns-in_default c = skipped_over c.loop-at.invariant _ c.loop-at-test.true (sym c.sort_at-sort.ensures) c.in_default.in_default-own.keys3
 
 pub returns : goal.returns
 returns c = skipped_end c.loop-at.invariant c.loop-at-test.false

@@ -1,0 +1,18 @@
+-- Whitespace goes on; everything else ends the line.
+use mathlib.Core.Path.{◌≡◌}
+use Prim.Native.Nat.{◌-◌}
+use lib.ListN.{length}
+use Rattle.token.specs.Records.{count}
+use Rattle.token.specs.Tokens.{tokens_at}
+use Rattle.output.specs.Pour.{bufs}
+use Rattle.output.specs.WalkLaws.{Looped}
+use Rattle.rules.specs.Skipping.{ending}
+use Rattle.line_ends.proofs.line_end.line_ending.Given as goal
+
+abbrev pub invariant-loop-t : goal.invariant-loop-t
+invariant-loop-t l =
+    Looped l.s (ending (tokens_at l.s l.cur) l.first) (ending (tokens_at l.s l.initial.cur) l.first) (bufs l.events l.errors l.n) (bufs l.initial.events l.initial.errors l.initial.n) l.cur l.initial.cur
+    × (length l.events ≡ length l.initial.events) × (length l.errors ≡ length l.initial.errors)
+
+abbrev pub decreases-loop-t : goal.decreases-loop-t
+decreases-loop-t l = count l.s - l.cur.at

@@ -1,3 +1,0 @@
-pub mod NumberCalls
-pub mod OwnArray
-pub mod BigConstant
