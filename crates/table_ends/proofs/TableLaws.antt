@@ -6,15 +6,23 @@ use mathlib.Core.List.{List}
 use Prim.Native.Nat.{ℕ}
 use Rattle.token.specs.Tokens.{Tok, all_tokens}
 use Rattle.token.specs.declared.cursor.Cursor.{Cursor}
-use Rattle.rules.specs.Out.{after_found, up_to_found, report, Item, Out, ◌▹◌}
+use Rattle.rules.specs.Out.{span, after, after_found, up_to_found, report, Item, Out, ◌▹◌}
 use Rattle.rules.specs.Messages as message
 use Rattle.rules.specs.Expected as expected
-use Rattle.rules.specs.Skipping.{ignore_to_newline}
+use Rattle.rules.specs.Receiver as receiver
+use Rattle.rules.specs.Skipping.{ignore_to_newline, ws_comment_newline}
 use Rattle.rules.specs.Table.{last_key_token, closed, unclosed}
 use Rattle.output.specs.declared.emitting.Walk.{Walk}
 use Rattle.output.specs.Pour.{Bufs, put}
 use Rattle.output.specs.Walks.{Goes}
 use Rattle.output.specs.WalkLaws.{first_item}
+
+-- behind the first `]` of an array table: the second one, or that there is none
+abbrev pub second_closed : ℕ → ℕ → ℕ → List Tok → Out
+second_closed c e f us = receiver.array_table_close c f ▹ ws_comment_newline us
+
+abbrev pub second_missing : ℕ → ℕ → ℕ → List Tok → Out
+second_missing a c d us = report message.unclosed_array_table expected.close_square (span a d) (after c d) ▹ ignore_to_newline us
 
 -- a table that is or is not an array table, a key that is or is not valid
 pub closed_by : (x y : Bool) (a c d : ℕ) (ts : List Tok) → x ≡ y → closed x a c d ts ≡ closed y a c d ts

@@ -19,4 +19,4 @@ pub returns-in-Eof : goal.returns-in-Eof
 returns-in-Eof c = goes_by _ _ _ _ _ _ (λ base q. by_rule _ _ _ _ (missing_by c.args.message c.args.t.kind c.args.t.start c.args.t.end _ _ _ c.in_line-x.ensures c.in-Eof.is) ∙ ((first_item _ _ _ _ _ (c.report_before-i.ensures _ _))) ∙ run_done _ _ _ _ _ _) c.requires (omega arith) refl
 
 pub returns-in_default : goal.returns-in_default
-returns-in_default c = goes_by _ _ _ _ _ _ (λ base q. by_rule _ _ _ _ (missing_rest c.args.message c.args.t.kind c.args.t.start c.args.t.end _ _ c.in_line-x.ensures (opened c.in_default.in_default-own.keys4)) ∙ ((first_item _ _ _ _ _ (c.report_before-i.ensures _ _)) ∙ (first_item _ _ _ _ _ (c.emit-n-in_default.ensures _ _))) ∙ run_done _ _ _ _ _ _) c.requires (omega arith) refl
+returns-in_default c = goes_by _ _ _ _ _ _ (λ base q. by_rule _ _ _ _ (missing_rest c.args.message c.args.t.kind c.args.t.start c.args.t.end _ _ c.in_line-x.ensures c.in_default.in_default-own.keys4) ∙ ((first_item _ _ _ _ _ (c.report_before-i.ensures _ _)) ∙ (first_item _ _ _ _ _ (c.emit-n-in_default.ensures _ _))) ∙ run_done _ _ _ _ _ _) c.requires (omega arith) refl
