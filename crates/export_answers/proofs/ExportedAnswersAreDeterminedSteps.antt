@@ -7,8 +7,8 @@ use Rattle.export_answers.specs.Determined.{ExportedOutcome}
 unfoldable pub held : ExportedOutcome → Outcome
 held x = record { answer = plain x.answer; events = x.events; errors = x.errors }
 
-pub from-held : Outcome → ExportedOutcome
-from-held o =
+pub from_held : Outcome → ExportedOutcome
+from_held o =
     record {
       answer = record { refusal = o.answer.refusal; place = o.answer.place; events = o.answer.events; errors = o.answer.errors };
       events = o.events;
@@ -16,5 +16,5 @@ from-held o =
     }
 
 pub known : (x y : ExportedOutcome) → held x ≡ held y → x ≡ y
-unfolding held from-held
-known x y e = λ i. from-held (e i)
+unfolding held from_held
+known x y e = λ i. from_held (e i)

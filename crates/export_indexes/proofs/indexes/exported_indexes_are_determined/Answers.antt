@@ -3,13 +3,13 @@
 use mathlib.Core.Path.{sym, subst, ◌∙◌}
 use Rattle.rules.specs.declared.answer.Answer.{Answer}
 use Rattle.index.specs.Outcome.{IndexDetermined}
-use Rattle.export_indexes.proofs.ExportedIndexesAreDeterminedSteps.{held, from-held}
+use Rattle.export_indexes.proofs.ExportedIndexesAreDeterminedSteps.{held, from_held}
 use Rattle.export_indexes.proofs.indexes.exported_indexes_are_determined.Goals as goal
 
 pub returns : goal.returns
-unfolding held from-held
+unfolding held from_held
 returns c =
     record {
-      indexed = λ x y p q. λ i. from-held ((subst (λ (a : Answer). IndexDetermined a c.args.events.now c.args.index.now) c.taken-a.ensures c.indexes_are_determined.ensures) (held x) (held y) p q i);
+      indexed = λ x y p q. λ i. from_held ((subst (λ (a : Answer). IndexDetermined a c.args.events.now c.args.index.now) c.taken-a.ensures c.indexes_are_determined.ensures) (held x) (held y) p q i);
       header = λ x y p q. p ∙ sym q;
     }
