@@ -1,0 +1,2 @@
+pub mod ExportedTextsAreDeterminedSteps
+pub mod ExportedVerdictsAreDeterminedSteps
