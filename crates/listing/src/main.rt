@@ -9,6 +9,8 @@ use entries::entries::parse_document;
 use listing_lines::printing::print_outcome;
 use rules::answer::{ERROR_WORDS, EVENT_WORDS};
 use rules::options::{Mode, Options};
+use std::io;
+use std::io::Read;
 
 // The most bytes that are listed: 512 records.
 const MOST: usize = 3072;
@@ -19,34 +21,50 @@ const EVENT_ROOM: usize = 1600 * EVENT_WORDS;
 const ERROR_ROOM: usize = 512 * ERROR_WORDS;
 
 // Lists the records s.
-fn list(s: &[u8])
+fn list(rt: &impl Print, s: &[u8]) -> io::Result<()>
     requires { length s.now ≤ 3072 }
 {
     let mut events = [0u32; EVENT_ROOM];
     let mut errors = [0u32; ERROR_ROOM];
     let options = Options { mode: Mode::Crate };
     let answer = parse_document(s, 0, options, &mut events, &mut errors);
-    print_outcome(answer, &events, &errors);
+    print_outcome(rt, answer, &events, &errors)
 }
 
-// Whether standard input has come to its end. `read_full` stops there, and where a read fails: only one more read, which gives nothing and does not
+// Reads until `buffer` is full, the input ends or a read fails, and answers how many bytes came.
+fn read_full(input: &mut impl Read, buffer: &mut [u8]) -> usize
+    ensures { result ≤ length buffer.new }
+{
+    let mut done = 0;
+    while done < buffer.len() {
+        match input.read(&mut buffer[done..]) {
+            Ok(0) | Err(_) => return done,
+            Ok(n) => done += n,
+        }
+    }
+    done
+}
+
+// Whether the input has come to its end. `read_full` stops there, and where a read fails: only one more read, which gives nothing and does not
 // fail, tells that all of the input was read.
-fn at_end() -> bool {
+fn at_end(input: &mut impl Read) -> bool {
     let mut beyond = [0u8; 1];
-    libc::read(0, &mut beyond) == 0
+    match input.read(&mut beyond) {
+        Ok(n) => n == 0,
+        Err(_) => false,
+    }
 }
 
 // One byte more than the most is asked for, so that longer input shows.
-fn main() {
+fn main(rt: HostRuntime) -> io::Result<()> {
+    let mut stdin = rt.stdin();
     let mut input = [0u8; 3073];
-    let n = io::read_full(0, &mut input);
+    let n = read_full(&mut stdin, &mut input);
     if n > MOST {
-        io::write_all(1, b"input too long\n");
-        return;
+        return println!(rt; "input too long");
     }
-    if at_end() {
-        list(&input[..n]);
-        return;
+    if at_end(&mut stdin) {
+        return list(&rt, &input[..n]);
     }
-    io::write_all(2, b"listing: standard input cannot be read\n");
+    eprintln!(rt; "listing: standard input cannot be read")
 }

@@ -1,13 +1,15 @@
 // The names of the events, written to standard output.
 ghost use Rattle.listing_lines.specs.Numbers.{Named};
 
+use std::io;
+
 // Where each name ends in the row of all names; it begins where the one before it ends.
 const ENDS: [usize; 18] = [
     0, 14, 29, 45, 62, 72, 79, 90, 96, 105, 115, 126, 143, 161, 171, 178, 185, 190,
 ];
 
 // The name of the event kind k: its part of the row, so that one call writes any name. Answers whether the writing went well.
-pub fn print_name(k: u32) -> bool
+pub fn print_name(rt: &impl Print, k: u32) -> io::Result<()>
     requires { Named k }
 {
     let names: &[u8] = b"std_table_open\
@@ -31,5 +33,5 @@ pub fn print_name(k: u32) -> bool
     let number = k as usize;
     let from = ends[number - 1];
     let to = ends[number];
-    io::write_all(1, &names[from..to])
+    rt.write_all(&names[from..to])
 }

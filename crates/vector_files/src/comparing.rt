@@ -1,6 +1,7 @@
 // What an entry gives, held to what the file says.
 use crate::frames::{Case, first_filled, word};
 use rules::answer::Answer;
+use std::io::Read;
 
 // What both buffers hold beforehand. No word that an entry writes is this one, since none is above 16,777,216.
 pub const UNTOUCHED: u32 = 0xA5C3F00D;
@@ -76,13 +77,13 @@ fn same_words(buffer: &[u32], wanted: &[u8], words: usize) -> Compared {
 }
 
 // Whether the buffer begins with so many words that come next in the file, and is untouched after them.
-pub fn next_words_are(fd: i32, buffer: &[u32], words: u32) -> Compared {
+pub fn next_words_are(file: &mut impl Read, buffer: &[u32], words: u32) -> Compared {
     let mut wanted = [0u8; 16384];
     let count = words as usize;
     if count > buffer.len() {
         return Compared::Broken;
     }
-    if !first_filled(fd, &mut wanted, count * 4) {
+    if !first_filled(file, &mut wanted, count * 4) {
         return Compared::Broken;
     }
     same_words(buffer, &wanted, count)

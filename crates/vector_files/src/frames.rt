@@ -1,5 +1,7 @@
-// Frames of vectors.bin, read from a descriptor. Words have four bytes, the lowest first.
+// Frames of vectors.bin, read in turn. Words have four bytes, the lowest first.
 ghost use Rattle.std.specs.Prelude.{◌+◌, ◌<◌, ◌≤◌, length};
+
+use std::io::Read;
 
 // A list at an entry with its room, and what the oracle answers.
 #[derive(Clone, Copy)]
@@ -41,17 +43,17 @@ pub fn word(s: &[u8], at: usize) -> u32
     wide(s[at]) + wide(s[at + 1]) * 256 + wide(s[at + 2]) * 65536 + wide(s[at + 3]) * 16777216
 }
 
-// Whether the file had enough to fill s.
-pub fn filled(fd: i32, s: &mut [u8]) -> bool {
-    io::read_full(fd, s) == s.len()
+// Whether the file had enough to fill s, and could be read.
+pub fn filled(file: &mut impl Read, s: &mut [u8]) -> bool {
+    file.read_exact(s).is_ok()
 }
 
-// Whether s has so many bytes, and the file had enough to fill them.
-pub fn first_filled(fd: i32, s: &mut [u8], count: usize) -> bool {
+// Whether s has so many bytes, and the file had enough to fill them and could be read.
+pub fn first_filled(file: &mut impl Read, s: &mut [u8], count: usize) -> bool {
     if count > s.len() {
         return false;
     }
-    filled(fd, &mut s[0..count])
+    filled(file, &mut s[0..count])
 }
 
 // The bytes that so many fill in the file: whole words.
@@ -75,39 +77,39 @@ fn case_of(head: &[u8; 44]) -> Case {
     }
 }
 
-fn read_case(fd: i32) -> Frame {
+fn read_case(file: &mut impl Read) -> Frame {
     let mut head = [0u8; 44];
-    if !filled(fd, &mut head) {
+    if !filled(file, &mut head) {
         return Frame::Broken;
     }
     Frame::Case(case_of(&head))
 }
 
-fn read_end(fd: i32) -> Frame {
+fn read_end(file: &mut impl Read) -> Frame {
     let mut count = [0u8; 8];
-    if !filled(fd, &mut count) {
+    if !filled(file, &mut count) {
         return Frame::Broken;
     }
     Frame::End(word(&count, 0) as u64 + word(&count, 4) as u64 * 4294967296)
 }
 
-fn read_note(fd: i32) -> Frame {
+fn read_note(file: &mut impl Read) -> Frame {
     let mut size = [0u8; 4];
-    if !filled(fd, &mut size) {
+    if !filled(file, &mut size) {
         return Frame::Broken;
     }
     Frame::Note(word(&size, 0))
 }
 
-pub fn read_frame(fd: i32) -> Frame {
+pub fn read_frame(file: &mut impl Read) -> Frame {
     let mut sort = [0u8; 4];
-    if !filled(fd, &mut sort) {
+    if !filled(file, &mut sort) {
         return Frame::Broken;
     }
     match word(&sort, 0) {
-        0 => read_end(fd),
-        1 => read_case(fd),
-        2 => read_note(fd),
+        0 => read_end(file),
+        1 => read_case(file),
+        2 => read_note(file),
         _ => Frame::Broken,
     }
 }

@@ -1,5 +1,7 @@
 // What was counted so far, and the lines that say so.
 use crate::frames::{first_filled, whole_words};
+use std::io;
+use std::io::Read;
 
 #[derive(Clone, Copy)]
 pub struct Tally {
@@ -20,15 +22,11 @@ pub enum Class {
 
 // One more. A count does not come near to where it would wrap.
 fn more(n: u64) -> u64 {
-    std::num::wrapping_add_u64(n, 1)
+    n.wrapping_add(1)
 }
 
-fn print_counts(lists: u64, differ: u64) {
-    io::write_all(1, b": ");
-    io::print_decimal(1, lists);
-    io::write_all(1, b" comparisons, ");
-    io::print_decimal(1, differ);
-    io::write_all(1, b" differ\n");
+fn print_counts(rt: &impl Print, lists: u64, differ: u64) -> io::Result<()> {
+    println!(rt; ": {lists} comparisons, {differ} differ")
 }
 
 impl Tally {
@@ -63,38 +61,45 @@ impl Tally {
     }
 
     // The end of the class's line.
-    pub fn print_class(self) {
+    pub fn print_class(self, rt: &impl Print) -> io::Result<()> {
         if self.open {
-            print_counts(self.class_lists, self.class_differ);
+            print_counts(rt, self.class_lists, self.class_differ)?;
         }
+        Ok(())
     }
 
-    pub fn print_all(self) {
-        io::write_all(1, b"all");
-        print_counts(self.lists, self.differ);
+    pub fn print_all(self, rt: &impl Print) -> io::Result<()> {
+        print!(rt; "all")?;
+        print_counts(rt, self.lists, self.differ)
     }
 }
 
 // The first bytes of a name, as many as it has.
-fn print_name(name: &[u8], length: usize) {
+fn print_name(rt: &impl Print, name: &[u8], length: usize) -> io::Result<()> {
     if length <= name.len() {
-        io::write_all(1, &name[0..length]);
+        rt.write_all(&name[0..length])?;
     }
+    Ok(())
 }
 
 // Ends the line of the class before, if any, and begins one with the name that the file has next.
-pub fn new_class(fd: i32, t: Tally, length: u32) -> Class {
-    t.print_class();
+pub fn new_class(
+    rt: &impl Print,
+    file: &mut impl Read,
+    t: Tally,
+    length: u32,
+) -> io::Result<Class> {
+    t.print_class(rt)?;
     let mut name = [0u8; 64];
-    if !first_filled(fd, &mut name, whole_words(length)) {
-        return Class::Broken;
+    if !first_filled(file, &mut name, whole_words(length)) {
+        return Ok(Class::Broken);
     }
-    print_name(&name, length as usize);
-    Class::New(Tally {
+    print_name(rt, &name, length as usize)?;
+    Ok(Class::New(Tally {
         open: true,
         class_lists: 0,
         class_differ: 0,
         lists: t.lists,
         differ: t.differ,
-    })
+    }))
 }

@@ -6,6 +6,9 @@
 mod replay;
 
 use crate::replay::replay;
+use std::fs::File;
+use std::io;
+use std::io::Read;
 use vector_files::comparing::Compared;
 use vector_files::frames::{Frame, read_frame};
 use vector_files::tally::{Class, Tally, new_class};
@@ -18,61 +21,58 @@ enum After {
 }
 
 // The file is not as it must be.
-fn broken(t: Tally) -> After {
-    io::write_all(1, b"\nvectors.bin is broken after list ");
-    io::print_decimal(1, t.lists);
-    io::write_all(1, b"\n");
-    After::End
+fn broken(rt: &impl Print, t: Tally) -> io::Result<After> {
+    let lists = t.lists;
+    println!(rt; "\nvectors.bin is broken after list {lists}")?;
+    Ok(After::End)
 }
 
 // The end: all lists came if their number is the one that stands there.
-fn finish(t: Tally, sent: u64) -> After {
-    t.print_class();
+fn finish(rt: &impl Print, t: Tally, sent: u64) -> io::Result<After> {
+    t.print_class(rt)?;
     if t.lists != sent {
-        return broken(t);
+        return broken(rt, t);
     }
-    t.print_all();
-    After::End
+    t.print_all(rt)?;
+    Ok(After::End)
 }
 
-fn turn(fd: i32, t: Tally) -> After {
-    match read_frame(fd) {
-        Frame::End(sent) => finish(t, sent),
-        Frame::Case(c) => match replay(fd, c) {
-            Compared::Same => After::Next(t.with(true)),
-            Compared::Differs => After::Next(t.with(false)),
-            Compared::Broken => broken(t),
+fn turn(rt: &impl Print, file: &mut impl Read, t: Tally) -> io::Result<After> {
+    match read_frame(file) {
+        Frame::End(sent) => finish(rt, t, sent),
+        Frame::Case(c) => match replay(file, c) {
+            Compared::Same => Ok(After::Next(t.with(true))),
+            Compared::Differs => Ok(After::Next(t.with(false))),
+            Compared::Broken => broken(rt, t),
         },
-        Frame::Note(length) => match new_class(fd, t, length) {
-            Class::New(next) => After::Next(next),
-            Class::Broken => broken(t),
+        Frame::Note(length) => match new_class(rt, file, t, length)? {
+            Class::New(next) => Ok(After::Next(next)),
+            Class::Broken => broken(rt, t),
         },
-        Frame::Broken => broken(t),
+        Frame::Broken => broken(rt, t),
     }
 }
 
 // A loop that is proved has to end, and nothing says that a file does: it has at most so many frames.
 const MOST_FRAMES: u32 = 1000000;
 
-fn replay_file(fd: i32) {
+fn replay_file(rt: &impl Print, file: &mut impl Read) -> io::Result<()> {
     let mut t = Tally::new();
     let mut left = MOST_FRAMES;
     while left > 0 {
-        match turn(fd, t) {
+        match turn(rt, file, t)? {
             After::Next(next) => t = next,
-            After::End => return,
+            After::End => return Ok(()),
         }
         left -= 1;
     }
-    broken(t);
+    broken(rt, t)?;
+    Ok(())
 }
 
-fn main() {
-    let fd = os::open_read(b"vectors.bin");
-    if fd < 0 {
-        io::write_all(1, b"vectors.bin cannot be opened\n");
-        return;
-    }
-    replay_file(fd);
-    libc::close(fd);
+fn main(rt: HostRuntime) -> io::Result<()> {
+    let Ok(mut file) = File::open(&rt, "vectors.bin") else {
+        return println!(rt; "vectors.bin cannot be opened");
+    };
+    replay_file(&rt, &mut file)
 }

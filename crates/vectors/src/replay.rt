@@ -2,6 +2,7 @@
 use entries::entries::{parse_document, parse_key, parse_simple_key, parse_value};
 use rules::answer::{Answer, ERROR_WORDS, EVENT_WORDS};
 use rules::options::{Mode, Options};
+use std::io::Read;
 use vector_files::comparing::{Compared, UNTOUCHED, both_of, next_words_are, same_answer};
 use vector_files::frames::{Case, first_filled, whole_words};
 
@@ -55,22 +56,22 @@ fn run(c: Case, s: &[u8], events: &mut [u32], errors: &mut [u32]) -> Ran {
 }
 
 // All that the buffers hold is compared, also what lies beyond the room.
-fn compare(fd: i32, c: Case, s: &[u8]) -> Compared {
+fn compare(file: &mut impl Read, c: Case, s: &[u8]) -> Compared {
     let mut events = [UNTOUCHED; EVENT_ROOM];
     let mut errors = [UNTOUCHED; ERROR_ROOM];
     let Ran::Answered(a) = run(c, s, &mut events, &mut errors) else {
         return Compared::Broken;
     };
-    let event_words = next_words_are(fd, &events, c.event_words);
-    let error_words = next_words_are(fd, &errors, c.error_words);
+    let event_words = next_words_are(file, &events, c.event_words);
+    let error_words = next_words_are(file, &errors, c.error_words);
     both_of(same_answer(a, c), both_of(event_words, error_words))
 }
 
 // Reads the list of the case, and compares what comes of it.
-pub fn replay(fd: i32, c: Case) -> Compared {
+pub fn replay(file: &mut impl Read, c: Case) -> Compared {
     let mut list = [0u8; 4096];
-    if !first_filled(fd, &mut list, whole_words(c.bytes)) {
+    if !first_filled(file, &mut list, whole_words(c.bytes)) {
         return Compared::Broken;
     }
-    compare(fd, c, &list)
+    compare(file, c, &list)
 }
