@@ -6,28 +6,26 @@ use Rattle.std.proofs.Math.Bool.{true, false}
 use Rattle.std.proofs.lemmas.Bool.{false≢true}
 use Prim.Native.Nat.{ℕ, zero, suc, ◌+◌, ◌-◌, ◌<◌, ◌≤◌}
 use native.Mathlib.Omega.{arith}
-use borrow.Author.Tests.{lt-ltb, le-ltb, ltb-true, ltb-false}
+use borrow.Author.Tests.{le-ltb, ltb-true, ltb-false}
 use Rattle.token.specs.declared.kind.Kind.{Kind}
 use Rattle.token.specs.declared.kind.InSearch.{InSearch}
-use Rattle.token.specs.declared.span.Span.{Span}
-use Rattle.token.specs.declared.cursor.Cursor.{Cursor}
 use Rattle.token.specs.declared.cursor.Sought.{Sought}
 use Rattle.token.specs.Limits.{max_end}
 use Rattle.token.specs.Kinds.{in_search, Width, one_byte, width_of}
 use Rattle.token.specs.KindLaws.{every_kind}
 use Rattle.token.specs.Records.{count, length_at, kind_at, start_at}
-use Rattle.token.specs.Tokens.{all_tokens, tokens_at, Good}
-use Rattle.token.specs.CursorLaws.{start_next, took, back_fits, backed}
+use Rattle.token.specs.Tokens.{all_tokens, Good}
+use Rattle.token.specs.CursorLaws.{took, back_fits, backed}
 use Rattle.token.specs.Search.{is_sought, stops_at}
 use Rattle.token.specs.SearchLaws.{nearest_none, nearest_miss, nearest_hit}
 use Rattle.token.specs.Laid.{Spans, Laid}
-use Rattle.rules.specs.Lines.{newlines, newlines_by, line_of}
+use Rattle.rules.specs.Lines.{newlines, line_of}
 use Rattle.rules.specs.Words.{comma_between}
 use Rattle.blamed_commas.specs.declared.commas.Comma.{Comma}
 use Rattle.line_points.specs.declared.points.LinePoint.{LinePoint}
 use Rattle.line_points.specs.Points.{newlines_to, Counted}
-use Rattle.blamed_commas.specs.Commas.{comma_since, Known}
-use Rattle.line_points.specs.PointLaws.{counted_begun, counted_on, newlines_small, newlines_next, first_behind, laid_here}
+use Rattle.blamed_commas.specs.Commas.{Known}
+use Rattle.line_points.specs.PointLaws.{counted_begun, counted_on, newlines_next, first_behind, laid_here}
 
 -- before the first record there is no comma
 pub none_known : (s : List ℕ) (base : ℕ) (comma : Comma) → (comma.upto ≡ 0) × (comma.behind ≡ 0) → Known s base comma

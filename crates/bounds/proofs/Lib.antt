@@ -4,3 +4,7 @@ pub mod TurnsEnough
 pub mod DocumentTurns
 pub mod FamilyLaws
 pub mod AttainedLaws
+pub mod DocumentRates
+pub mod EntryRates
+pub mod Bounds
+pub mod CountLaws

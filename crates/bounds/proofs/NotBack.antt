@@ -18,7 +18,7 @@ use Rattle.rules.specs.Table.{on_table}
 use Rattle.rules.specs.Document.{on_expression_key_val_sep, expression}
 use Rattle.rules.specs.Messages as message
 use Rattle.rules.specs.Costs.{not_back}
-use Rattle.rules.specs.KeyCosts.{opt_dot_keys_costs}
+use Rattle.rules.proofs.KeyCosts.{opt_dot_keys_costs}
 use Rattle.bounds.specs.LineCosts.{ignore_to_newline_costs, on_comment_costs, ignore_to_value_close_costs}
 use Rattle.bounds.specs.ScalarCosts.{on_scalar_costs}
 use Rattle.bounds.specs.NestCosts.{dotted_costs, on_open_costs}

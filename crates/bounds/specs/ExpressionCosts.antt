@@ -20,7 +20,7 @@ use Rattle.rules.specs.Table.{next_by, next_token_if, unclosed, closed, header, 
 use Rattle.rules.specs.Document.{on_expression_key_val_sep, no_equals, expression}
 use Rattle.rules.specs.Costs.{Costs, then_costs}
 use Rattle.bounds.specs.LineCosts.{ignore_to_newline_costs, ws_comment_newline_costs}
-use Rattle.rules.specs.KeyCosts.{opt_whitespace_costs, key_costs}
+use Rattle.rules.proofs.KeyCosts.{opt_whitespace_costs, key_costs}
 use Rattle.bounds.specs.ScalarCosts.{on_scalar_costs}
 use Rattle.bounds.specs.NestCosts.{on_open_costs}
 

@@ -8,7 +8,3 @@ pub mod ArrayCosts
 pub mod NestCosts
 pub mod ExpressionCosts
 pub mod ValueRates
-pub mod DocumentRates
-pub mod EntryRates
-pub mod Bounds
-pub mod CountLaws

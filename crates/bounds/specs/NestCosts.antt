@@ -23,7 +23,7 @@ use Rattle.rules.specs.Array.{Nest, array_turn}
 use Rattle.rules.specs.InlineTable.{action_of, progress, trailing, inline_table_step, inline_table_turn}
 use Rattle.rules.specs.Nest.{on_open}
 use Rattle.bounds.specs.LineCosts.{on_comment_costs, ignore_to_value_close_costs}
-use Rattle.rules.specs.KeyCosts.{opt_dot_keys_costs, after_dot_costs}
+use Rattle.rules.proofs.KeyCosts.{opt_dot_keys_costs, after_dot_costs}
 use Rattle.bounds.specs.ScalarCosts.{on_scalar_costs}
 use Rattle.bounds.specs.KeyRates.{Twos, opt_dot_keys_twos}
 use Rattle.bounds.specs.ArrayCosts.{spare, spare_one, spare_few, spare_one_few, spare_left, weaker, turns_cost_by, NestCosts, in_array_spare, array_turn_costs}

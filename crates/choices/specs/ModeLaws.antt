@@ -1,10 +1,10 @@
 -- Laws of modes by their numbers. Proved; nothing here needs to be believed.
-use Rattle.std.specs.Prelude.{◌≡◌, refl, List, ℕ}
+use Rattle.std.specs.Prelude.{◌≡◌, List, ℕ}
 use Rattle.std.proofs.Common.{ap, sym, ◌∙◌}
 use Rattle.rules.specs.declared.answer.Answer.{Answer}
 use Rattle.rules.specs.declared.options.Options.{Options}
 use Rattle.rules.specs.Entries.{Entry}
-use Rattle.rules.specs.Answer.{Outcome, outcome}
+use Rattle.rules.specs.Answer.{outcome}
 use Rattle.choices.specs.declared.modes.Chosen.{Chosen}
 use Rattle.choices.specs.Modes.{chosen_by, unknown_mode, outcome_of, AnswersIn}
 

@@ -20,7 +20,7 @@ use Rattle.rules.specs.declared.options.Mode.{Mode}
 use Rattle.rules.specs.declared.options.Options.{Options}
 use Rattle.rules.specs.Words.{events_of, errors_of}
 use Rattle.rules.specs.Answer.{event_size, error_size, Outcome, room_refusal, refusal_by, place_by, walked, outcome_by, outcome}
-use Rattle.bounds.specs.Bounds.{counts_fit}
+use Rattle.bounds.proofs.Bounds.{counts_fit}
 use Rattle.output.specs.declared.emitting.Counts.{Counts}
 use Rattle.output.specs.declared.emitting.Walk.{Walk}
 use Rattle.output.specs.Pour.{Bufs, bufs, refused, pour}

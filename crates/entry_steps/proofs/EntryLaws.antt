@@ -2,11 +2,11 @@
 use mathlib.Core.Path.{◌≡◌, ap, sym, subst, ◌∙◌}
 use mathlib.Core.Bool.{Bool, true, false}
 use mathlib.Core.List.{List}
-use Prim.Native.Nat.{ℕ, suc, ◌-◌, ◌/◌, ◌≤◌}
+use Prim.Native.Nat.{ℕ, suc, ◌-◌, ◌/◌}
 use native.Mathlib.Omega.{arith}
 use lib.ListN.{length}
 use Rattle.token.specs.Records.{count}
-use Rattle.token.specs.Tokens.{Tok, all_tokens, tokens_at, At, Good}
+use Rattle.token.specs.Tokens.{Tok, all_tokens, tokens_at, Good}
 use Rattle.token.specs.Check.{checked}
 use Rattle.token.specs.CheckLaws.{checked_passes, passed_good}
 use Rattle.token.specs.CursorLaws.{at_start, left_length}

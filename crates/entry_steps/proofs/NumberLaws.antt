@@ -8,7 +8,7 @@ use native.Mathlib.Nat.{div-mul-le_self, mul-le-mul_right}
 use native.Mathlib.Numerals.{towards_suc}
 use native.Mathlib.Omega.{arith}
 use lib.ListN.{length, get_or, set, length-set}
-use lib.Seq.{sets, get_or-set_same, get_or-set_other, set-set, set_comm}
+use lib.Seq.{get_or-set_same, get_or-set_other, set-set, set_comm}
 use lib.Dec.{ltb}
 use borrow.Author.Tests.{ltb-true, ltb-false, le-ltb, lt-ltb}
 use Rattle.token.specs.declared.span.Span.{Span}
@@ -18,7 +18,8 @@ use Rattle.rules.specs.Answer.{error_size, filled}
 use Rattle.rules.specs.Lines.{line_of}
 use Rattle.buffer_puts.specs.Puts.{put_error, more}
 use Rattle.line_numbers.specs.Numbering.{placed, placed_at, spanned, numbered_at, numbered_one, numbered_first, stored, numbered}
-use Rattle.filling.specs.FillLaws.{Sized, length_filled, more_fits, more_left_out}
+use Rattle.filling.specs.FillLaws.{Sized}
+use Rattle.filling.proofs.FillLaws.{length_filled, more_fits, more_left_out}
 
 -- a pass changes no length
 spanned_length : (l : List ℕ) (b : ℕ) (u : Span) (line : ℕ) → length (spanned l b u line) ≡ length l

@@ -24,7 +24,8 @@ use Rattle.buffer_puts.specs.Puts.{put_event, put_error, more, capped}
 use Rattle.output.specs.Pour.{Bufs, bufs, put, Unexpected, known, sought, put_by, with_event, with_error, pour}
 use Rattle.buffer_puts.specs.CapLaws.{capped_known}
 use Rattle.line_numbers.specs.Numbering.{placed, numbered_first, numbered}
-use Rattle.filling.specs.FillLaws.{Sized, sized_more, stored, filled_none}
+use Rattle.filling.specs.FillLaws.{Sized}
+use Rattle.filling.proofs.FillLaws.{sized_more, stored, filled_none}
 use Rattle.entry_steps.proofs.NumberLaws.{put_error_more}
 
 put_event_more : (es : List (List ℕ)) (l : List ℕ) (a b c d : ℕ) → Sized event_size es → put_event (filled event_size es l) (length es) a b c d ≡ filled event_size (es ++ ((a ∷ b ∷ c ∷ d ∷ []) ∷ [])) l

@@ -3,11 +3,11 @@ use Rattle.mistake_rules.specs.Outcome.{Listing}
 use Rattle.text_listing.specs.Checking.{CheckOutcome}
 use Rattle.export_listings.specs.ExportedMistakes.{ExportedListing, ExportedCheckOutcome}
 
-unfoldable pub from-listing : Listing → ExportedListing
-from-listing o = record { answer = record { refusal = o.answer.refusal; place = o.answer.place; mistakes = o.answer.mistakes }; mistakes = o.buffer }
+unfoldable pub from_listing : Listing → ExportedListing
+from_listing o = record { answer = record { refusal = o.answer.refusal; place = o.answer.place; mistakes = o.answer.mistakes }; mistakes = o.buffer }
 
-unfoldable pub from-check : CheckOutcome → ExportedCheckOutcome
-from-check o =
+unfoldable pub from_check : CheckOutcome → ExportedCheckOutcome
+from_check o =
     record {
       answer = record {
         refusal = o.answer.refusal;

@@ -15,7 +15,6 @@ use Rattle.token.specs.declared.kind.Kind.TheVariants.{Dot, Equals}
 use Rattle.token.specs.declared.cursor.Token.{Token}
 use Rattle.token.specs.declared.cursor.Cursor.{Cursor}
 use Rattle.rules.specs.Out.{Out, done, ◌then◌}
-use Rattle.rules.specs.Expected as expected
 use Rattle.rules.specs.Keys.{opt_whitespace, opt_dot_keys, dot_keys}
 use Rattle.output.specs.declared.emitting.Counts.{Counts}
 use Rattle.output.specs.declared.emitting.Walk.{Walk}

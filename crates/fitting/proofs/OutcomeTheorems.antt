@@ -24,8 +24,8 @@ use Rattle.rules.specs.Entries.{parse_document, document_entry}
 use Rattle.rules.specs.declared.options.Options.{Options}
 use Rattle.rules.specs.Words.{looked_up, event_words, events_of, errors_of, halt_of}
 use Rattle.rules.specs.Answer.{event_size, error_size, joined, Outcome, refusal_by, walked}
-use Rattle.bounds.specs.Bounds.{three_events}
-use Rattle.bounds.specs.CountLaws.{room_events}
+use Rattle.bounds.proofs.Bounds.{three_events}
+use Rattle.bounds.proofs.CountLaws.{room_events}
 use Rattle.fitting.specs.Quiet.{Quiet, QuietRun}
 use Rattle.fitting.specs.Grammar.{Parts, AnyKind, FitsBy}
 use Rattle.fitting.specs.Premises.{NestedWithin, Regular, Ready, text_end, events_in, document_run, events_left, EndToEnd, Nests, SameButForCuts}

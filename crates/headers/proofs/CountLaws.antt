@@ -1,13 +1,13 @@
 -- How many headers there are, event by event. Proved; nothing here needs to be believed.
-use mathlib.Core.Path.{◌≡◌, refl, ap, sym, ◌∙◌}
-use mathlib.Core.Bool.{Bool, true, false, cond}
+use mathlib.Core.Path.{◌≡◌, refl, ap}
+use mathlib.Core.Bool.{Bool, true, false}
 use mathlib.Core.List.{List, [], ◌∷◌}
 use Prim.Native.Nat.{ℕ, zero, suc, ◌+◌, ◌-◌, ◌*◌, ◌<◌, ◌≤◌}
 use native.Mathlib.Omega.{arith}
 use native.Mathlib.Numerals.{add-one}
 use lib.ListN.{length, get_or}
 use Rattle.rules.specs.Answer.{event_size}
-use Rattle.headers.specs.Headers.{opens_header, one_if, Header, headers_from, kinds_from, headers_in}
+use Rattle.headers.specs.Headers.{opens_header, one_if, headers_from, kinds_from, headers_in}
 
 -- event i of n is in the buffer that holds them
 pub event_held : (n i : ℕ) (buffer : List ℕ) → i < n → n * event_size ≤ length buffer → i * event_size < length buffer

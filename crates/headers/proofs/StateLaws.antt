@@ -1,13 +1,13 @@
 -- The builder's state is what the definition of headers asks for: what was finished at an event, and what the state behind it still gives with
 -- the events that follow, is what the state before it gave. Proved; nothing here needs to be believed.
-use mathlib.Core.Path.{◌≡◌, refl, ap, sym, ◌∙◌}
+use mathlib.Core.Path.{◌≡◌, refl, ◌∙◌}
 use mathlib.Core.Bool.{Bool, true, false, cond}
 use mathlib.Core.List.{List, [], ◌∷◌, ◌++◌}
-use Prim.Native.Nat.{ℕ, zero, suc, ◌+◌, ◌-◌, ◌<◌, ◌≤◌}
+use Prim.Native.Nat.{ℕ, suc, ◌+◌, ◌-◌, ◌<◌, ◌≤◌}
 use native.Mathlib.Omega.{arith}
 use native.Mathlib.Nat.{zero-add}
 use native.Mathlib.Numerals.{add-one}
-use lib.Dec.{eqb, ltb}
+use lib.Dec.{eqb}
 use borrow.Author.Tests.{eqb-true, ne_eqb, lt-ltb}
 use Rattle.headers.specs.declared.state.IndexState.{IndexState}
 use Rattle.headers.specs.Headers.{opens_header, closing, Header, parts_up_to, up_to_header, headers_from}

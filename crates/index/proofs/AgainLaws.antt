@@ -1,16 +1,14 @@
 -- Entries are read again as they were written. Proved; nothing here needs to be believed.
 use mathlib.Core.Path.{◌≡◌, refl, ap, sym, subst, ◌∙◌}
 use mathlib.Core.Logic.{inl, inr}
-use mathlib.Core.Bool.{Bool, true, false, cond}
+use mathlib.Core.Bool.{Bool, true, false}
 use mathlib.Core.List.{List, [], ◌∷◌, ◌++◌, append_assoc, append-nil}
-use Prim.Native.Nat.{ℕ, zero, suc, ◌+◌, ◌*◌, ◌/◌, ◌%◌, ◌<◌, ◌≤◌}
+use Prim.Native.Nat.{ℕ, suc, ◌+◌, ◌*◌, ◌/◌, ◌%◌, ◌<◌, ◌≤◌}
 use native.Mathlib.Nat.{eq-or-lt_of_le}
 use native.Mathlib.Omega.{arith}
 use lib.ListN.{length, get_or, length-append}
 use lib.Seq.{get_or-append-add}
 use lib.Dec.{eqb, ltb}
-use borrow.Author.Tests.{eq-eqb, lt-ltb, eqb-true}
-use Rattle.token.specs.Limits.{max_records}
 use Rattle.index_entries.specs.declared.reading.HeaderAt.{HeaderAt}
 use Rattle.headers.specs.Headers.{Header, opens_header, closing, parts_up_to, up_to_header, headers_from, kinds_from, headers_in, mark, entry_size, entry_bytes, index_bytes}
 use Rattle.index_entries.specs.Reading.{two_at, four_at, is_entry, header_at}

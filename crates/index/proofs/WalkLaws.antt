@@ -2,7 +2,7 @@
 use mathlib.Core.Path.{◌≡◌, refl, ap, sym, subst, ◌∙◌}
 use mathlib.Core.Bool.{Bool, true, false, cond}
 use mathlib.Core.List.{List, [], ◌∷◌, ◌++◌, append-nil}
-use Prim.Native.Nat.{ℕ, zero, suc, ◌+◌, ◌-◌, ◌*◌, ◌<◌, ◌≤◌}
+use Prim.Native.Nat.{ℕ, suc, ◌+◌, ◌-◌, ◌*◌, ◌<◌, ◌≤◌}
 use native.Mathlib.Omega.{arith}
 use native.Mathlib.Numerals.{add-one}
 use lib.ListN.{length, get_or, drop, length-append}
@@ -11,7 +11,7 @@ use borrow.Author.Tests.{lt-ltb}
 use Rattle.token.specs.Limits.{max_records}
 use Rattle.rules.specs.Answer.{event_size}
 use Rattle.headers.specs.declared.state.IndexState.{IndexState}
-use Rattle.headers.specs.Headers.{opens_header, Header, headers_from, kinds_from, headers_in, entry_size, entry_bytes, index_bytes}
+use Rattle.headers.specs.Headers.{opens_header, Header, kinds_from, headers_in, entry_size, entry_bytes, index_bytes}
 use Rattle.headers.specs.States.{more, parts_after, state_after, state_behind, fresh, header_of, ended, Finishable, Finished}
 use Rattle.headers.specs.Placing.{placed}
 use Rattle.headers.proofs.StateLaws.{current, collected, finished, Within, noted}

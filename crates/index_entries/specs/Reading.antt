@@ -1,5 +1,5 @@
 -- Entries as they are read again. Assumes nothing.
-use Rattle.std.specs.Prelude.{Bool, true, false, cond, List, ℕ, ◌+◌, ◌*◌, length, get_or, eqb, ltb}
+use Rattle.std.specs.Prelude.{Bool, false, cond, List, ℕ, ◌+◌, ◌*◌, length, get_or, eqb, ltb}
 use Rattle.index_entries.specs.declared.reading.HeaderAt.{HeaderAt}
 use Rattle.headers.specs.Headers.{entry_size}
 

@@ -2,7 +2,7 @@
 use Rattle.std.specs.Prelude.{List, [], ◌∷◌, ℕ}
 use denote.Enum.Declared.{tag_of}
 use types.Run.{OneOf}
-use Rattle.token.specs.Tokens.{Tok, Good, Took, tokens_at}
+use Rattle.token.specs.Tokens.{Good, Took, tokens_at}
 use Rattle.token.specs.declared.cursor.Token.{Token}
 use Rattle.token.specs.declared.cursor.Cursor.{Cursor}
 use Rattle.rules.specs.declared.inline_table.Action.{Action}

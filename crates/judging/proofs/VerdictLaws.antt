@@ -10,7 +10,7 @@ use lib.Dec.{ltb}
 use borrow.Author.Tests.{ltb-false, lt-ltb, le-ltb}
 use Rattle.token.specs.declared.checked.Checked.{Checked}
 use Rattle.token.specs.Records.{count}
-use Rattle.token.specs.Tokens.{Tok, all_tokens}
+use Rattle.token.specs.Tokens.{all_tokens}
 use Rattle.token.specs.Check.{checked}
 use Rattle.token.specs.CheckLaws.{refused_number}
 use Rattle.token.specs.CursorLaws.{all_length}
@@ -23,7 +23,7 @@ use Rattle.fitting.specs.Grammar.{FitsWithin}
 use Rattle.fitting.specs.Premises.{Regular, Ready, document_run}
 use Rattle.judging.specs.declared.verdict.Verdict.{Verdict}
 use Rattle.quiet.specs.Runs.{QuietAnswer, SingleLineAnswer}
-use Rattle.judging.specs.Verdicts.{Sound, Roomy, unjudged, short_of_room, refusal_of, place_of, Judges, Judgement, DeterminedVerdict, Judged}
+use Rattle.judging.specs.Verdicts.{Sound, Roomy, unjudged, short_of_room, refusal_of, place_of, Judges, DeterminedVerdict, Judged}
 use Rattle.fitting.proofs.KeyWords.{single_line_iff}
 use Rattle.fitting.proofs.OutcomeTheorems.{outcome_fits_within, roomy_fits_quiet}
 use Rattle.quiet.proofs.Decided.{decided_no, decided_once}

@@ -11,7 +11,7 @@ use Rattle.token.specs.declared.kind.Kind.TheVariants.{Dot}
 use Rattle.token.specs.declared.cursor.Token.{Token}
 use Rattle.token.specs.declared.cursor.Cursor.{Cursor}
 use Rattle.rules.specs.Costs.{not_back}
-use Rattle.rules.specs.KeyCosts.{after_dot_costs}
+use Rattle.rules.proofs.KeyCosts.{after_dot_costs}
 use Rattle.rules.specs.Keys.{opt_dot_keys, after_dot}
 use Rattle.output.specs.declared.emitting.Walk.{Walk}
 use Rattle.output.specs.Pour.{Bufs}

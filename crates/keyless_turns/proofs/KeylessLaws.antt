@@ -7,7 +7,7 @@ use types.Run.{OneOf, miss}
 use Rattle.token.specs.Tokens.{Tok}
 use Rattle.rules.specs.declared.document.InDocument.{InDocument}
 use Rattle.rules.specs.contracts.document.InDocument as in-document
-use Rattle.rules.specs.Out.{Out, done}
+use Rattle.rules.specs.Out.{done}
 use Rattle.keyless_turns.specs.Keyless.{keyless}
 
 abbrev Rest : List ℕ

@@ -12,7 +12,7 @@ use Rattle.utf8_sequences.specs.Utf8.{valid_up_to}
 use Rattle.scan.specs.Lexer.{tokens_from, tokens_of, base_of}
 use Rattle.scan.specs.LexerLaws.{lexer_some}
 use Rattle.lex.specs.Refusals.{text_too_long, not_utf8, no_room_for_tokens}
-use Rattle.lex.specs.Lexed.{LexOutcome, refused, lex_outcome}
+use Rattle.lex.specs.Lexed.{refused, lex_outcome}
 
 -- how many there are, if that is more than the room
 module _ (room total n : ℕ) (e : n ≡ total) where

@@ -3,16 +3,15 @@ use mathlib.Core.Path.{◌≡◌, refl, ap, sym, subst, ◌∙◌}
 use mathlib.Core.Bool.{Bool, cond}
 use mathlib.Core.List.{List}
 use mathlib.Core.Logic.{◌⊎◌, inl, inr}
-use Prim.Native.Nat.{ℕ, zero, suc, ◌+◌, ◌-◌, ◌*◌, ◌<◌, ◌≤◌}
+use Prim.Native.Nat.{ℕ, suc, ◌+◌, ◌-◌, ◌*◌, ◌<◌, ◌≤◌}
 use native.Mathlib.Omega.{arith}
 use lib.ListN.{length, get_or, set, length-set}
-use lib.Dec.{eqb, ltb}
 use borrow.Author.Tests.{eq-eqb, ne_eqb, lt-ltb, le-ltb}
 use Rattle.token.specs.declared.span.Span.{Span}
 use Rattle.token.specs.Limits.{max_end}
 use Rattle.token.specs.Laid.{Laid}
 use Rattle.token.specs.Records.{count, start_at}
-use Rattle.token.specs.Tokens.{Tok, all_tokens}
+use Rattle.token.specs.Tokens.{all_tokens}
 use Rattle.rules.specs.declared.options.Mode.{Mode}
 use Rattle.rules.specs.Answer.{error_size}
 use Rattle.rules.specs.Lines.{line_of}

@@ -1,5 +1,5 @@
 -- Laws of points where the lines are counted: at the start, on past a token, and where a place or a record is reached. Proved; nothing here needs to be believed.
-use Rattle.std.specs.Prelude.{◌≡◌, refl, Bool, true, false, cond, List, [], ◌∷◌, ℕ, zero, suc, ◌+◌, ◌-◌, ◌<◌, ◌≤◌, length, take, drop, eqb, leb}
+use Rattle.std.specs.Prelude.{◌≡◌, refl, Bool, true, false, cond, List, [], ◌∷◌, ℕ, zero, suc, ◌+◌, ◌-◌, ◌<◌, ◌≤◌, length, take, drop, eqb}
 use Rattle.std.proofs.Common.{ap, ap₂, sym, subst, ◌∙◌, arith, add-one, add_assoc, add_comm, add-zero, not-suc-le-zero, le_of_suc-le-suc, le-leb}
 use Rattle.std.proofs.lemmas.Bool.{lt-leb}
 use Rattle.token.specs.declared.kind.Kind.{Kind}

@@ -22,8 +22,8 @@ use Rattle.rules.specs.Words.{event_number, events_of, errors_of, Halt, ended, r
 use Rattle.rules.specs.Entries.{Entry, document_entry, parse}
 use Rattle.rules.specs.Answer.{event_size, error_size, Outcome, filled, refusal_by, walked, outcome_by, outcome}
 use Rattle.bounds.specs.Most.{most_events}
-use Rattle.bounds.specs.Bounds.{more_events}
-use Rattle.bounds.specs.CountLaws.{room_events}
+use Rattle.bounds.proofs.Bounds.{more_events}
+use Rattle.bounds.proofs.CountLaws.{room_events}
 use Rattle.rules.proofs.BufferLaws.{word_in}
 use Rattle.rules.proofs.OutcomeLaws.{events_sized}
 use Rattle.listing_lines.specs.Numbers.{Named}

@@ -13,7 +13,7 @@ use Rattle.pieces.specs.declared.pieces.Piece.{Piece}
 use Rattle.pieces.specs.Messages.{multi_line_string}
 use Rattle.pieces.specs.Pieces.{Seen, events_from, sort_of, skipped_to, pieces_by, pieces}
 use Rattle.mistake_rules.specs.Mistakes.{errors_from, start_of, Mistake, reported, silent, goes_before, accounts_for, judged, placed, all_reported, merged}
-use Rattle.mistake_rules.specs.Promises.{mistakes_of, records_of, reported_in, silent_in, StartsIn, here, later, Unaccounted, no_piece, kept, left, Complete}
+use Rattle.mistake_rules.specs.Promises.{mistakes_of, records_of, reported_in, silent_in, here, later, Unaccounted, no_piece, kept, left, Complete}
 
 -- the records
 reported_all : (es : List (List ℕ)) → reported_in (all_reported es) ≡ es

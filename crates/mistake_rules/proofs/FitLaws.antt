@@ -2,7 +2,6 @@
 -- and a list that fits gives no error event. Proved; nothing here needs to be believed.
 use mathlib.Core.Path.{◌≡◌, refl, ap, sym, subst, ◌∙◌}
 use mathlib.Core.Bool.{Bool, true, false, false≢true}
-use mathlib.Core.Logic.{◌↔◌}
 use mathlib.Core.List.{List, [], ◌∷◌}
 use Prim.Native.Nat.{ℕ, zero, suc, ◌+◌, ◌*◌, ◌/◌, ◌<◌, ◌≤◌}
 use native.Mathlib.Omega.{arith}
@@ -19,21 +18,21 @@ use Rattle.rules.specs.Limits.{max_depth}
 use Rattle.rules.specs.declared.event.Event.{Event}
 use Rattle.rules.specs.declared.options.Options.{Options}
 use Rattle.rules.specs.Out.{Item}
-use Rattle.rules.specs.Entries.{Entry, document_entry, parse_document}
+use Rattle.rules.specs.Entries.{document_entry, parse_document}
 use Rattle.rules.specs.Words.{event_number, events_of, errors_of, Halt, ended, refused_level, halt_of}
 use Rattle.rules.specs.Answer.{event_size, error_size, Outcome, filled, refusal_by, walked, outcome_by, outcome}
 use Rattle.rules.proofs.OutcomeLaws.{passed_outcome, counted_events, counted_errors, events_written, event_room, error_room}
-use Rattle.bounds.specs.CountLaws.{counts_within, refusal_most}
+use Rattle.bounds.proofs.CountLaws.{counts_within, refusal_most}
 use Rattle.fitting.specs.Quiet.{QuietRun, NoMultiLineKey}
 use Rattle.fitting.specs.Grammar.{Parts, SingleLine, FitsWithin}
-use Rattle.fitting.specs.Premises.{OpenBracket, Regular, document_run}
+use Rattle.fitting.specs.Premises.{OpenBracket, document_run}
 use Rattle.fitting.proofs.Reading.{ReadsOne, reads_dot, reads_equals, reads_comma, reads_table_open, reads_table_close, reads_array_open, reads_array_close, reads_inline_table_open, reads_inline_table_close, reads_whitespace, reads_newline, reads_comment, reads_key, reads_string, ReadsTwo, reads_array_table_open, reads_array_table_close, Reads, read_none, read_one, read_two, read_unquoted}
 use Rattle.fitting.proofs.FitsQuietDocument.{document_walk}
 use Rattle.fitting.proofs.QuietLaws.{word_at, quiet_outcome}
 use Rattle.fitting.proofs.KeyWords.{single_line_iff}
 use Rattle.fitting.proofs.OutcomeTheorems.{outcome_fits_within}
 use Rattle.pieces.specs.declared.pieces.Piece.{Piece}
-use Rattle.pieces.specs.Pieces.{Seen, event_at, events_from, pieces}
+use Rattle.pieces.specs.Pieces.{event_at, events_from, pieces}
 use Rattle.mistake_rules.specs.Mistakes.{errors_from, Mistake, merged}
 use Rattle.mistake_rules.specs.declared.answer.Listed.{Listed}
 use Rattle.mistake_rules.specs.Outcome.{Listing, listed, listed_held, listing}

@@ -5,7 +5,7 @@ use mathlib.Core.Bool.{Bool, true, false, cond}
 use mathlib.Core.List.{List}
 use Prim.Native.Nat.{ℕ, ◌/◌, ◌<◌, ◌≤◌}
 use lib.ListN.{length}
-use lib.Dec.{eqb, ltb}
+use lib.Dec.{ltb}
 use borrow.Author.Tests.{ltb-true, lt-ltb, le-ltb, eq-eqb, ne_eqb}
 use Rattle.token.specs.declared.checked.Checked.{Checked}
 use Rattle.token.specs.Tokens.{Tok, all_tokens}
@@ -17,7 +17,7 @@ use Rattle.rules.specs.Answer.{event_size, error_size, Outcome, filled}
 use Rattle.mistake_rules.specs.declared.answer.Listed.{Listed}
 use Rattle.mistake_rules.specs.Mistakes.{Mistake, mistakes_in, all_words}
 use Rattle.mistake_rules.specs.Sheets.{Sheet}
-use Rattle.mistake_rules.specs.Outcome.{no_room_for_mistakes, Listing, unlisted, listed, listed_held, listed_by, listing, Lists, ListingDetermined}
+use Rattle.mistake_rules.specs.Outcome.{no_room_for_mistakes, Listing, unlisted, listed, listed_held, listed_by, listing, ListingDetermined}
 
 -- the text of a list that passes the check ends within the limit
 pub passed_end : (s : List ℕ) (base : ℕ) → checked s base ≡ Checked.Passed → start_at s base (count s) ≤ max_end

@@ -2,7 +2,7 @@
 use mathlib.Core.Path.{◌≡◌, refl, ap, sym, subst, ◌∙◌}
 use mathlib.Core.Bool.{Bool, true, false, cond, false≢true}
 use mathlib.Core.List.{List, [], ◌∷◌}
-use Prim.Native.Nat.{ℕ, zero, suc, ◌+◌, ◌<◌, ◌≤◌}
+use Prim.Native.Nat.{ℕ, zero, suc, ◌+◌, ◌<◌}
 use native.Mathlib.Omega.{arith}
 use lib.ListN.{length}
 use lib.Dec.{eqb}
@@ -12,7 +12,7 @@ use Rattle.pieces.specs.declared.sorts.Sort.{Sort}
 use Rattle.pieces.specs.declared.pieces.Piece.{Piece}
 use Rattle.pieces.specs.Messages.{missing, multi_line_string}
 use Rattle.pieces.specs.Pieces.{Seen, event_at, events_from, sort_of, skipped_to, pieces_by, pieces}
-use Rattle.mistake_rules.specs.Mistakes.{Mistake, silent, judged, placed, merged}
+use Rattle.mistake_rules.specs.Mistakes.{merged}
 
 -- no error event, no empty span, no multi-line string as a key
 pub record Fine (e : Seen) : Type 0 where

@@ -3,7 +3,6 @@ use Rattle.std.specs.Prelude.{ℕ, ◌/◌, ◌≡◌, cond, List, length, eqb, 
 use Rattle.token.specs.declared.checked.Checked.{Checked}
 use Rattle.token.specs.Tokens.{Tok, all_tokens}
 use Rattle.token.specs.Check.{checked}
-use Rattle.rules.specs.declared.answer.Answer.{Answer}
 use Rattle.rules.specs.Answer.{event_size, error_size, Outcome, filled}
 use Rattle.mistake_rules.specs.declared.answer.Listed.{Listed}
 use Rattle.mistake_rules.specs.Mistakes.{Mistake, mistakes_in, all_words}

@@ -9,7 +9,7 @@ use lib.ListN.{length, get_or}
 use Rattle.token.specs.Tokens.{Tok}
 use Rattle.rules.specs.Answer.{error_size}
 use Rattle.pieces.specs.declared.pieces.Piece.{Piece}
-use Rattle.mistake_rules.specs.Mistakes.{error_at, errors_from, start_of, Mistake, reported, silent, goes_before, accounts_for, judged, placed, all_reported, words_of, all_words}
+use Rattle.mistake_rules.specs.Mistakes.{error_at, errors_from, Mistake, reported, silent, goes_before, accounts_for, judged, placed, all_words}
 use Rattle.mistake_steps.specs.Steps.{errors_left, accounted, Passes}
 
 -- record r of m is in the buffer that holds them

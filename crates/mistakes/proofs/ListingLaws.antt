@@ -1,13 +1,12 @@
 -- Laws of the listing, piece by piece. Proved; nothing here needs to be believed.
 use mathlib.Core.Path.{◌≡◌, refl, ap, ap₂, sym, subst, ◌∙◌}
 use mathlib.Core.Bool.{Bool, true, false, cond}
-use mathlib.Core.List.{List, [], ◌∷◌, ◌++◌}
+use mathlib.Core.List.{List, [], ◌∷◌}
 use Prim.Native.Nat.{ℕ, zero, suc, ◌+◌, ◌-◌, ◌<◌, ◌≤◌}
 use native.Mathlib.Omega.{arith}
 use native.Mathlib.Numerals.{add-one}
 use lib.ListN.{length}
 use Rattle.token.specs.Tokens.{Tok, all_tokens}
-use Rattle.rules.specs.Lines.{line_of}
 use Rattle.rules.specs.Answer.{error_size, filled}
 use Rattle.line_points.specs.declared.points.LinePoint.{LinePoint}
 use Rattle.line_points.specs.Points.{Counted, Numbered}
@@ -17,8 +16,8 @@ use Rattle.pieces.specs.declared.pieces.Found.{Found}
 use Rattle.mistakes.specs.declared.listing.Noted.{Noted}
 use Rattle.pieces.specs.Messages.{expected_by}
 use Rattle.pieces.specs.Pieces.{events_from, pieces}
-use Rattle.mistake_rules.specs.Mistakes.{error_at, errors_from, start_of, Mistake, reported, silent, goes_before, accounts_for, judged, placed, all_reported, merged, mistakes_in, words_of, all_words}
-use Rattle.mistake_rules.specs.Sheets.{Sheet, put_at, put_one, put_all}
+use Rattle.mistake_rules.specs.Mistakes.{errors_from, start_of, Mistake, reported, silent, goes_before, accounts_for, judged, placed, all_reported, merged, mistakes_in, words_of, all_words}
+use Rattle.mistake_rules.specs.Sheets.{Sheet, put_at, put_all}
 use Rattle.pieces.specs.Finding.{events_left, Finds, first, none}
 use Rattle.mistake_steps.specs.Steps.{errors_left, accounted, Passes}
 use Rattle.mistakes.specs.Notes.{Notes}

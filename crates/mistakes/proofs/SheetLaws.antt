@@ -5,7 +5,8 @@ use Prim.Native.Nat.{ℕ, suc}
 use native.Mathlib.Numerals.{add-one}
 use lib.ListN.{length, length-append}
 use Rattle.rules.specs.Answer.{error_size, filled}
-use Rattle.filling.specs.FillLaws.{Sized, sized_more, stored, filled_none}
+use Rattle.filling.specs.FillLaws.{Sized}
+use Rattle.filling.proofs.FillLaws.{sized_more, stored, filled_none}
 use Rattle.mistake_rules.specs.Sheets.{Sheet, put_at, put_one, put_all}
 
 pub put_append : (ws vs : List (List ℕ)) (o : Sheet) → put_all (ws ++ vs) o ≡ put_all vs (put_all ws o)

@@ -1,6 +1,5 @@
 -- The two modes make the same words of all items but of a trailing comma's report. Proved; nothing here needs to be believed.
 use mathlib.Core.Path.{◌≡◌, refl, ap, sym}
-use mathlib.Core.Bool.{Bool}
 use mathlib.Core.List.{List, [], ◌∷◌}
 use Prim.Native.Nat.{ℕ, suc, ◌/◌}
 use lib.ListN.{length}

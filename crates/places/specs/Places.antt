@@ -1,6 +1,6 @@
 -- What the functions promise that look through a text from a place on. A rule says how many bytes it takes from the start of
 -- a list of bytes; what it says of a text from a place on, it says of the bytes from there. Assumes nothing.
-use Rattle.std.specs.Prelude.{◌≡◌, Bool, true, false, cond, ◌&&◌, not, List, [], ◌∷◌, ℕ, zero, suc, ◌+◌, ◌≤◌, length, drop, eqb}
+use Rattle.std.specs.Prelude.{◌≡◌, Bool, true, false, cond, List, [], ◌∷◌, ℕ, zero, suc, ◌+◌, ◌≤◌, length, drop, eqb}
 
 -- from `at` on the rule takes the bytes up to `end`
 pub record Scanned (rule : List ℕ → ℕ) (text : List ℕ) (at end : ℕ) : Type 0 where

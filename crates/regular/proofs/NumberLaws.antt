@@ -1,6 +1,6 @@
 -- What the number of a kind tells: 8 is Whitespace, and a number that is none of 1 to 15 is read as Eof. Proved; nothing here needs to be believed.
 use mathlib.Core.Path.{◌≡◌, refl}
-use Prim.Native.Nat.{ℕ, zero, suc, ◌<◌, ◌≤◌}
+use Prim.Native.Nat.{ℕ, zero, suc, ◌≤◌}
 use native.Mathlib.Omega.{arith}
 use lib.Dec.{eqb, ltb}
 use borrow.Author.Tests.{ne_eqb, lt-ltb}

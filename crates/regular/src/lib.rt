@@ -25,6 +25,7 @@ fn is_whitespace(number: u32) -> bool
     number == 8
 }
 
+#[tactic(auto, using(crate::proofs::NumberLaws::eof_number), unfolding(token::specs::Kinds::kind_of))]
 fn is_eof(number: u32) -> bool
     ensures { result ≡ is_eof (kind_of number) }
 {

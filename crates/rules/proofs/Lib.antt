@@ -1,3 +1,4 @@
 pub mod BufferLaws
 pub mod OutcomeLaws
 pub mod Texts
+pub mod KeyCosts

@@ -8,7 +8,6 @@ use Rattle.rules.specs.declared.event.Encoding.{Encoding}
 use Rattle.rules.specs.declared.keys.InKey.{InKey}
 use Rattle.rules.specs.declared.skipping.InLine.{InLine}
 use Rattle.rules.specs.Out.{Look, span, before, found, after_found, report, Out, done, ◌▹◌}
-use Rattle.rules.specs.Messages as message
 use Rattle.rules.specs.Expected as expected
 use Rattle.rules.specs.Receiver as receiver
 use Rattle.rules.specs.Skipping.{in_line, on_comment}

@@ -22,4 +22,3 @@ pub mod TextWords
 pub mod Texts
 pub mod LineTexts
 pub mod Costs
-pub mod KeyCosts

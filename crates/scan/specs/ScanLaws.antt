@@ -5,12 +5,12 @@ use Rattle.std.proofs.Common.{sym, ◌∙◌, arith, drop-drop}
 use Rattle.std.proofs.Math.Bool.{true, false}
 use Rattle.std.proofs.lemmas.Bool.{false≢true}
 use mathlib.Core.List.{List, [], ◌∷◌}
-use borrow.Author.Tests.{eqb-true, ne_eqb}
+use borrow.Author.Tests.{ne_eqb}
 use Rattle.places.specs.Places.{is_byte, peeks, starts_with, none_of}
 use Rattle.places.specs.Plain.{in_comment, in_literal, in_ml_literal, in_basic, in_ml_basic}
 use Rattle.places.specs.PlaceLaws.{here, peeks_within, dropped, dropped_two, dropped_three}
 use Rattle.scan.specs.Bytes.{line_feed, carriage_return, quotation_mark, apostrophe, backslash}
-use Rattle.scan.specs.Lexer.{until, ends_comment, three_of, up_to_two, escapable, takes_next, taken, lex_comment, lex_literal_string, lex_basic_string, lex_ml_literal_string, lex_ml_basic_string}
+use Rattle.scan.specs.Lexer.{until, three_of, up_to_two, takes_next, taken, lex_comment, lex_literal_string, lex_basic_string, lex_ml_literal_string, lex_ml_basic_string}
 
 module _ (set : ℕ → Bool) (s : List ℕ) (i : ℕ) (h : i < length s) where
   pub until_hit : set (get_or s i 0) ≡ true → until set (drop i s) ≡ 0

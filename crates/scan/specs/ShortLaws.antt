@@ -3,7 +3,6 @@ use Rattle.std.specs.Prelude.{◌≡◌, refl, Bool, true, false, cond, List, []
 use Rattle.std.proofs.Common.{subst, arith, length-drop}
 use Rattle.token.specs.declared.kind.Kind.{Kind}
 use Rattle.token.specs.Kinds.{width_of}
-use Rattle.token.specs.Tokens.{Tok, tok}
 use Rattle.token.specs.Laid.{Spans, Laid, laid_none, laid_token, end_of}
 use Rattle.places.specs.Places.{is_byte, peeks, starts_with}
 use Rattle.scan.specs.declared.start.Start.{Start}

@@ -1,6 +1,6 @@
 -- Laws of one token at a place of the text. Proved; nothing here needs to be believed.
-use Rattle.std.specs.Prelude.{◌≡◌, refl, Bool, true, false, cond, List, [], ◌∷◌, ℕ, zero, suc, ◌+◌, ◌<◌, ◌≤◌, length, drop, get_or}
-use Rattle.std.proofs.Common.{ap, sym, subst, ◌∙◌, arith, drop-drop}
+use Rattle.std.specs.Prelude.{◌≡◌, Bool, true, false, cond, List, ◌∷◌, ℕ, ◌+◌, ◌<◌, ◌≤◌, length, drop, get_or}
+use Rattle.std.proofs.Common.{ap, sym, ◌∙◌, drop-drop}
 use Rattle.places.specs.Places.{is_byte, peeks, starts_with}
 use Rattle.places.specs.PlaceLaws.{here, dropped_three}
 use Rattle.token.specs.declared.kind.Kind.{Kind}

@@ -11,7 +11,6 @@ use Rattle.token.specs.declared.cursor.Cursor.{Cursor}
 use Rattle.rules.specs.declared.skipping.InLine.{InLine}
 use Rattle.rules.specs.contracts.skipping.InLine as in-line
 use Rattle.rules.specs.Out.{done}
-use Rattle.rules.specs.Receiver as receiver
 use Rattle.rules.specs.Skipping.{in_line, ignored, behind_comment}
 use Rattle.output.specs.Pour.{Bufs}
 use Rattle.output.specs.Walks.{run}

@@ -1,5 +1,5 @@
 -- From the joined entry's outcome to that of the check. Proved; nothing here needs to be believed.
-use mathlib.Core.Path.{◌≡◌, refl, ap, ap₂, sym, subst, ◌∙◌}
+use mathlib.Core.Path.{◌≡◌, refl, ap, ap₂, sym, ◌∙◌}
 use mathlib.Core.Bool.{Bool, true, false, cond}
 use mathlib.Core.List.{List}
 use Prim.Native.Nat.{ℕ, ◌+◌, ◌*◌, ◌≤◌}
@@ -24,7 +24,7 @@ use Rattle.mistake_rules.specs.Outcome.{Listing, unlisted, listed, listed_held}
 use Rattle.mistake_rules.specs.Promises.{mistakes_of}
 use Rattle.mistake_rules.proofs.FitLaws.{run_passed, run_listed}
 use Rattle.text_listing.specs.declared.TextCheck.{TextCheck}
-use Rattle.text_listing.specs.Checking.{CheckOutcome, checking, checked_answer, read_and_listed, text_listing, check_outcome, ChecksText, CheckDetermined}
+use Rattle.text_listing.specs.Checking.{checking, checked_answer, read_and_listed, text_listing, check_outcome, ChecksText, CheckDetermined}
 
 -- a text whose run was not refused
 module _ (text records events errors : List ℕ) where

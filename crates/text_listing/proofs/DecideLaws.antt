@@ -9,28 +9,26 @@ use lib.ListN.{length}
 use lib.Dec.{eqb, ltb}
 use borrow.Author.Tests.{eqb-true, eq-eqb, ltb-true, le-ltb}
 use Rattle.token.specs.Limits.{max_records, max_end}
-use Rattle.token.specs.Tokens.{all_tokens}
 use Rattle.token.specs.CheckLaws.{checked_passes}
 use Rattle.token.specs.CursorLaws.{all_length}
 use Rattle.rules.specs.Limits.{max_depth}
 use Rattle.rules.specs.Entries.{document_entry}
 use Rattle.rules.specs.Answer.{error_size, Outcome}
-use Rattle.bounds.specs.CountLaws.{refusal_most}
+use Rattle.bounds.proofs.CountLaws.{refusal_most}
 use Rattle.fitting.specs.Grammar.{FitsWithin}
-use Rattle.fitting.specs.Premises.{document_run}
 use Rattle.fitting.proofs.KeyWords.{single_line_iff}
 use Rattle.fitting.proofs.OutcomeTheorems.{roomy_fits_quiet}
 use Rattle.scan.specs.Lexer.{tokens_of}
 use Rattle.utf8_sequences.specs.Utf8.{valid_up_to}
 use Rattle.lex.specs.Lexed.{LexOutcome, lex_outcome, refused, lexed}
-use Rattle.text_rules.specs.TextOutcome.{TextOutcome, reading_by, text_outcome, text_run}
+use Rattle.text_rules.specs.TextOutcome.{reading_by, text_outcome, text_run}
 use Rattle.text_rules.specs.TextPremises.{WithinLimits, RecordRoom}
 use Rattle.text_rules.specs.LexedLaws.{accepted, lexed_when}
 use Rattle.text_rules.specs.RunLaws.{run_is, tokens_are, regular_are, few_pass}
 use Rattle.text_rules.proofs.TextBounds.{text_counts_within, text_room_records, text_room_events, text_room_errors}
 use Rattle.text_steps.specs.TextVerdicts.{SoundText, EventRoom}
 use Rattle.mistake_rules.specs.declared.answer.Listed.{Listed}
-use Rattle.mistake_rules.specs.Outcome.{no_room_for_mistakes, Listing, unlisted, listed}
+use Rattle.mistake_rules.specs.Outcome.{no_room_for_mistakes, unlisted, listed}
 use Rattle.mistake_rules.specs.Promises.{mistakes_of}
 use Rattle.mistake_rules.proofs.CompleteLaws.{complete}
 use Rattle.mistake_rules.proofs.FitLaws.{no_length, empty_fits}

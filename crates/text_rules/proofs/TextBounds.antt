@@ -16,11 +16,11 @@ use Rattle.rules.specs.Entries.{document_entry}
 use Rattle.rules.specs.declared.options.Options.{Options}
 use Rattle.rules.specs.Answer.{event_size, error_size}
 use Rattle.bounds.specs.Most.{most_events, most_errors}
-use Rattle.bounds.specs.Bounds.{three_events, two_errors, more_events, more_errors}
-use Rattle.bounds.specs.CountLaws.{counts_most, room_events, room_errors, refusal_most}
+use Rattle.bounds.proofs.Bounds.{three_events, two_errors, more_events, more_errors}
+use Rattle.bounds.proofs.CountLaws.{counts_most, room_events, room_errors, refusal_most}
 use Rattle.utf8_sequences.specs.Utf8.{valid_up_to}
 use Rattle.scan.specs.Lexer.{tokens_of}
-use Rattle.lex.specs.Lexed.{LexOutcome, lex_outcome, refused, lexed}
+use Rattle.lex.specs.Lexed.{lex_outcome, refused, lexed}
 use Rattle.lex.specs.TextLaws.{text_few}
 use Rattle.text_rules.specs.TextOutcome.{records_left, reading_by, text_outcome}
 use Rattle.text_rules.specs.LexedLaws.{lexed_records}

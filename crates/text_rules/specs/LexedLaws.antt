@@ -1,7 +1,7 @@
 -- What a text that the lexer did not refuse is: its records stand first in the buffer, are read as its tokens, and pass the check unless they
 -- are too many. Proved; nothing here needs to be believed.
 use Rattle.std.specs.Prelude.{◌≡◌, refl, Bool, true, false, cond, List, [], ◌∷◌, ◌++◌, ℕ, zero, suc, ◌+◌, ◌*◌, ◌/◌, ◌%◌, ◌<◌, ◌≤◌, take, drop, ltb}
-use Rattle.std.proofs.Common.{ap, sym, ◌∙◌, arith, length-append, take_at}
+use Rattle.std.proofs.Common.{ap, ◌∙◌, arith, length-append, take_at}
 use Rattle.std.proofs.Math.ListN.{length}
 use borrow.Author.Tests.{ltb-false, lt-ltb, le-ltb, eq-eqb}
 use Rattle.token.specs.declared.checked.Checked.{Checked}

@@ -1,7 +1,7 @@
 -- Laws of the joined entry's outcome: by what the lexer left. Proved; nothing here needs to be believed.
 use Rattle.std.specs.Prelude.{◌≡◌, refl, Bool, true, false, List, ℕ, ◌+◌, ◌*◌, ◌<◌, ◌≤◌, length, take, eqb}
 use Rattle.std.proofs.Math.Path.{ap}
-use Rattle.std.proofs.Common.{sym, subst, ◌∙◌, arith, eq-eqb, ne_eqb}
+use Rattle.std.proofs.Common.{sym, subst, ◌∙◌, eq-eqb, ne_eqb}
 use Rattle.token.specs.declared.checked.Checked.{Checked}
 use Rattle.token.specs.Limits.{max_records, max_end}
 use Rattle.token.specs.Check.{checked}
@@ -11,7 +11,7 @@ use Rattle.rules.specs.declared.options.Options.{Options}
 use Rattle.rules.specs.Answer.{Outcome, outcome, outcome_by}
 use Rattle.lex.specs.declared.Lexed.{Lexed}
 use Rattle.lex.specs.Lexed.{LexOutcome, lex_outcome}
-use Rattle.text_rules.specs.TextOutcome.{TextOutcome, text_outcome, records_left, reading_by, reading, lexed_and_read}
+use Rattle.text_rules.specs.TextOutcome.{text_outcome, records_left, reading_by, reading, lexed_and_read}
 use Rattle.text_rules.specs.LexedLaws.{lexed_room, lexed_few, lexed_passes, lexed_many}
 
 -- a list that has too many records is not read

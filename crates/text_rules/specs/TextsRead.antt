@@ -4,7 +4,7 @@ use Rattle.std.specs.Prelude.{ℕ, ◌*◌, ◌-◌, List, [], ◌∷◌, ◌++�
 use Rattle.rules.specs.Entries.{Entry, document_entry, key_entry, simple_key_entry, value_entry}
 use Rattle.rules.specs.Answer.{as_crate, event_size, error_size, joined}
 use Rattle.rules.specs.Texts.{Text, texts, further_texts}
-use Rattle.rules.specs.TextWords.{record_bytes, words, simple_key, key_val_sep, scalar, basic_scalar, array_open, array_close, newline, whitespace, error, reported}
+use Rattle.rules.specs.TextWords.{record_bytes, words, simple_key, key_val_sep, scalar, basic_scalar, newline, whitespace, error, reported}
 use Rattle.text_rules.specs.Ascii.{ascii}
 use Rattle.text_rules.specs.TextOutcome.{TextOutcome, text_outcome}
 

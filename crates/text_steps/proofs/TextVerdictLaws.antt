@@ -6,11 +6,11 @@ use mathlib.Core.List.{List, []}
 use Prim.Native.Nat.{ℕ, ◌*◌, ◌/◌, ◌<◌, ◌≤◌}
 use native.Mathlib.Omega.{arith}
 use lib.ListN.{length, take}
-use lib.Dec.{eqb, ltb}
+use lib.Dec.{ltb}
 use borrow.Author.Tests.{eq-eqb, ne_eqb}
 use Rattle.token.specs.Limits.{max_records}
 use Rattle.token.specs.Records.{count}
-use Rattle.token.specs.Tokens.{Tok, all_tokens}
+use Rattle.token.specs.Tokens.{all_tokens}
 use Rattle.token.specs.CheckLaws.{checked_passes}
 use Rattle.token.specs.CursorLaws.{all_length}
 use Rattle.rules.specs.Limits.{max_depth}
@@ -24,11 +24,11 @@ use Rattle.lex.specs.declared.Lexed.{Lexed}
 use Rattle.scan.specs.Lexer.{tokens_of}
 use Rattle.lex.specs.Lexed.{LexOutcome, lex_outcome}
 use Rattle.text_rules.specs.TextOutcome.{TextOutcome, text_outcome, run_of, text_run}
-use Rattle.text_rules.specs.TextPremises.{WithinLimits, RecordRoom}
+use Rattle.text_rules.specs.TextPremises.{RecordRoom}
 use Rattle.text_rules.specs.LexedLaws.{accepted, lexed_count}
 use Rattle.text_rules.specs.TextLaws.{text_many}
 use Rattle.text_rules.specs.RunLaws.{buffer_is, run_refused, refused_beyond, refusal_none, run_is, tokens_are, regular_are, few_pass}
-use Rattle.text_steps.specs.TextVerdicts.{SoundText, EventRoom, text_refusal_of, text_place_of, JudgesText, TextJudgement, DeterminedTextVerdict, JudgedText, TextVerdictsJudge}
+use Rattle.text_steps.specs.TextVerdicts.{SoundText, EventRoom, text_refusal_of, text_place_of, JudgesText, DeterminedTextVerdict, TextVerdictsJudge}
 
 -- what the lexer answered, with the record buffer after it
 module _ (text records events : List ℕ) (r : Lexed) (after : List ℕ) (e : record { answer = r; buffer = after } ≡ lex_outcome text records) where

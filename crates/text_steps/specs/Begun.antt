@@ -2,7 +2,7 @@
 use Rattle.std.specs.Prelude.{◌≡◌, List, ℕ, ◌≤◌}
 use Rattle.token.specs.Limits.{max_records}
 use Rattle.rules.specs.declared.options.Options.{Options}
-use Rattle.lex.specs.Lexed.{LexOutcome, lex_outcome}
+use Rattle.lex.specs.Lexed.{lex_outcome}
 use Rattle.text_rules.specs.TextOutcome.{TextAnswers}
 use Rattle.text_steps.specs.declared.entry.TextBegun.{TextBegun}
 use Rattle.text_steps.specs.declared.verdict.VerdictBegun.{VerdictBegun}

@@ -5,7 +5,7 @@ use Rattle.token.specs.Limits.{max_records}
 use Rattle.rules.specs.declared.options.Options.{Options}
 use Rattle.judging.specs.declared.verdict.Verdict.{Verdict}
 use Rattle.lex.specs.declared.Lexed.{Lexed}
-use Rattle.lex.specs.Lexed.{LexOutcome, lex_outcome}
+use Rattle.lex.specs.Lexed.{lex_outcome}
 use Rattle.text_rules.specs.declared.answer.TextAnswer.{TextAnswer}
 use Rattle.text_rules.specs.TextOutcome.{TextAnswers}
 use Rattle.text_steps.specs.declared.entry.TextBegun.{TextBegun}

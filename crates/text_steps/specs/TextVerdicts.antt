@@ -8,7 +8,7 @@ use Rattle.judging.specs.declared.verdict.Verdict.{Verdict}
 use Rattle.judging.specs.Verdicts.{refusal_of, place_of}
 use Rattle.lex.specs.declared.Lexed.{Lexed}
 use Rattle.scan.specs.Lexer.{tokens_of}
-use Rattle.lex.specs.Lexed.{LexOutcome, lex_outcome}
+use Rattle.lex.specs.Lexed.{lex_outcome}
 use Rattle.text_rules.specs.TextOutcome.{text_outcome, text_run}
 use Rattle.text_rules.specs.TextPremises.{WithinLimits, RecordRoom}
 

@@ -1,5 +1,5 @@
 -- Laws of well-formed UTF-8. Proved; nothing here needs to be believed.
-use Rattle.std.specs.Prelude.{◌≡◌, refl, Bool, true, false, cond, ◌&&◌, ℕ, zero, suc, ◌+◌, ◌-◌, ◌<◌, ◌≤◌, length, drop, get_or, eqb, leb, ltb}
+use Rattle.std.specs.Prelude.{◌≡◌, refl, Bool, true, false, cond, ◌&&◌, ℕ, zero, suc, ◌+◌, ◌-◌, ◌<◌, ◌≤◌, length, drop, get_or, leb}
 use Rattle.std.proofs.Math.Path.{ap}
 use Rattle.std.proofs.Common.{sym, ◌∙◌, length-drop, drop_of_length-le, drop-drop, le-leb, leb-true, leb-false}
 use Rattle.std.proofs.lemmas.Bool.{false≢true, lt-leb}

@@ -10,7 +10,6 @@ use Rattle.output.specs.WalkLaws.{first_item, first_items, run_done, goes_by, go
 use Rattle.flat_values.specs.Flat.{flat_value}
 use Rattle.flat_values.specs.FlatLaws.{value_starts}
 use Rattle.flat_values.proofs.Unread.{unread}
-use borrow.Enum.Refused.{opened}
 use Rattle.flat_values.proofs.flat_value.Goals as goal
 
 pub on_scalar-requires : goal.on_scalar-requires

@@ -3,7 +3,6 @@ use Rattle.std.proofs.Common.{sym, ◌∙◌}
 use native.Mathlib.Omega.{arith}
 use Rattle.token.specs.KindLaws.{number_range}
 use Rattle.inline_actions.proofs.ActionLaws.{action_from, table_entry, rest_action, row_small}
-use Rattle.std.proofs.Common.{rules}
 use Rattle.inline_actions.proofs.action_at.Goals as goal
 
 pub overflow_sub-j : goal.overflow_sub-j

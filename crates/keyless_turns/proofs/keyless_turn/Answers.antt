@@ -6,7 +6,6 @@ use Rattle.rules.specs.declared.document.InDocument.{InDocument}
 use Rattle.output.specs.WalkLaws.{first_item, run_done, goes_by, goes_as}
 use Rattle.keyless_turns.specs.Keyless.{keyless}
 use Rattle.keyless_turns.proofs.KeylessLaws.{rest}
-use borrow.Enum.Refused.{opened as among_is}
 use Rattle.keyless_turns.proofs.keyless_turn.Goals as goal
 
 pub on_table-requires : goal.on_table-requires

@@ -3,7 +3,6 @@ use mathlib.Core.Path.{refl, sym, ◌∙◌}
 use native.Mathlib.Omega.{arith}
 use Rattle.output.specs.WalkLaws.{by_rule, first_item, run_done, goes_by, goes_as, after_item}
 use Rattle.simple_parts.proofs.SimpleKeyLaws.{missing_by, missing_rest}
-use borrow.Enum.Refused.{opened}
 use Rattle.simple_parts.proofs.on_missing_key.Goals as goal
 
 pub on_comment-requires : goal.on_comment-requires

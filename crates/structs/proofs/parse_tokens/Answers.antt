@@ -1,5 +1,5 @@
 -- Too many structs are refused; else their records have room.
-use Rattle.std.proofs.Common.{arith, sym, ◌∙◌}
+use Rattle.std.proofs.Common.{sym, ◌∙◌}
 use Rattle.struct_records.proofs.StructLaws.{too_many_lem}
 use Rattle.structs.proofs.parse_tokens.Goals as goal
 use borrow.Author.Tests.{ltb-true}

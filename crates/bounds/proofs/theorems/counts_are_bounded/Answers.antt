@@ -1,5 +1,5 @@
 -- By CountLaws.antt.
-use Rattle.bounds.specs.CountLaws.{counts_within}
+use Rattle.bounds.proofs.CountLaws.{counts_within}
 use Rattle.bounds.proofs.theorems.counts_are_bounded.Goals as goal
 
 pub returns : goal.returns

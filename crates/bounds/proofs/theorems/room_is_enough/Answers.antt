@@ -1,5 +1,5 @@
 -- By CountLaws.antt.
-use Rattle.bounds.specs.CountLaws.{room_events, room_errors}
+use Rattle.bounds.proofs.CountLaws.{room_events, room_errors}
 use Rattle.bounds.proofs.theorems.room_is_enough.Goals as goal
 
 pub returns : goal.returns

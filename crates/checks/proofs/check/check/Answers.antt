@@ -22,14 +22,8 @@ returns-then-from-gt-MAX_END c =
     let h : max_end < c.args.base = omega (arith, c.if-from-gt-MAX_END.true, c.widened-from.ensures.0) in
     simp (eq-eqb _ _ c.if-s-ne0.false, le-ltb _ _ c.if-n-gt-MAX_RECORDS.false, lt-ltb _ _ h)
 
-pub all_pass-requires : goal.all_pass-requires
-all_pass-requires c = record { s_bound = c.if-n-gt-MAX_RECORDS.false; from_le_max_end = c.if-from-gt-MAX_END.false }
-
 pub returns-then-all_pass : goal.returns-then-all_pass
 returns-then-all_pass c = sym (passed_is _ (sym c.all_pass.ensures ∙ c.if-all_pass.true)) ∙ (checked_records _ _ _ c.if-s-ne0.false c.if-n-gt-MAX_RECORDS.false (omega (arith, c.if-from-gt-MAX_END.false)) c.widened-from.ensures.0)
-
-pub first_refused-requires : goal.first_refused-requires
-first_refused-requires c = c.if-from-gt-MAX_END.false
 
 pub returns : goal.returns
 returns c = c.first_refused.ensures ∙ (checked_records _ _ _ c.if-s-ne0.false c.if-n-gt-MAX_RECORDS.false (omega (arith, c.if-from-gt-MAX_END.false)) c.widened-from.ensures.0)

@@ -61,17 +61,17 @@ returns-in_default-x c =
 pub key_and_value-walk-requires : goal.key_and_value-walk-requires
 key_and_value-walk-requires c =
     let j : Met c.args.settings.levels c.args.s.now c.args.c (bufs c.args.events.now c.args.errors.now c.args.m) c.match-x.from c.match-x.events c.args.errors.now c.match-x.n c.match-x.message (length c.args.events.now) = elim c.match-x.branch [
-      in-Key w ↦ meet c.args.errors.now w.events-is (w.from-is ∙ w.on_expression_key-start.ensures.0) w.n-is (w.message-is ∙ w.on_expression_key-start.ensures.1) (begun_key c.args.settings.levels (told _ _ _ _ _ c.next-step.ensures c.in-Got.is) w.in-Key.e (λ loop. document_at _ _ _ _ (told _ _ _ _ _ c.next-step.ensures c.in-Got.is) _ _ c.in_document-x.ensures w.in-Key.is c.args.settings.levels loop) (λ all. w.on_expression_key-start.ensures.2 all _), w.on_expression_key-start.auto.events)
-    | in-Equals w ↦ meet c.args.errors.now w.events-is w.from-is w.n-is w.message-is (begun_equals c.args.settings.levels (told _ _ _ _ _ c.next-step.ensures c.in-Got.is) c.requires w.back-from.ensures _ (document_equals_lem c.in-Got.t.kind _ c.in_document-x.ensures w.in-Equals.is) (λ loop. document_at _ _ _ _ (told _ _ _ _ _ c.next-step.ensures c.in-Got.is) _ _ c.in_document-x.ensures w.in-Equals.is c.args.settings.levels loop) (λ all. w.empty_key-n.ensures all _), w.empty_key-n.auto.events)
-    | in-Dot w ↦ meet c.args.errors.now w.events-is w.from-is w.n-is (w.message-is ∙ w.on_expression_dot-start.ensures.1) (begun_dot c.args.settings.levels (told _ _ _ _ _ c.next-step.ensures c.in-Got.is) c.requires w.on_expression_dot-start.ensures.0 (document_dot_lem c.in-Got.t.kind _ c.in_document-x.ensures w.in-Dot.is) (λ loop. document_at _ _ _ _ (told _ _ _ _ _ c.next-step.ensures c.in-Got.is) _ _ c.in_document-x.ensures w.in-Dot.is c.args.settings.levels loop) (λ all. w.on_expression_dot-start.ensures.2 all _), w.on_expression_dot-start.auto.events)
+      | in-Key w ↦ meet c.args.errors.now w.events-is (w.from-is ∙ w.on_expression_key-start.ensures.0) w.n-is (w.message-is ∙ w.on_expression_key-start.ensures.1) (begun_key c.args.settings.levels (told _ _ _ _ _ c.next-step.ensures c.in-Got.is) w.in-Key.e (λ loop. document_at _ _ _ _ (told _ _ _ _ _ c.next-step.ensures c.in-Got.is) _ _ c.in_document-x.ensures w.in-Key.is c.args.settings.levels loop) (λ all. w.on_expression_key-start.ensures.2 all _), w.on_expression_key-start.auto.events)
+      | in-Equals w ↦ meet c.args.errors.now w.events-is w.from-is w.n-is w.message-is (begun_equals c.args.settings.levels (told _ _ _ _ _ c.next-step.ensures c.in-Got.is) c.requires w.back-from.ensures _ (document_equals_lem c.in-Got.t.kind _ c.in_document-x.ensures w.in-Equals.is) (λ loop. document_at _ _ _ _ (told _ _ _ _ _ c.next-step.ensures c.in-Got.is) _ _ c.in_document-x.ensures w.in-Equals.is c.args.settings.levels loop) (λ all. w.empty_key-n.ensures all _), w.empty_key-n.auto.events)
+      | in-Dot w ↦ meet c.args.errors.now w.events-is w.from-is w.n-is (w.message-is ∙ w.on_expression_dot-start.ensures.1) (begun_dot c.args.settings.levels (told _ _ _ _ _ c.next-step.ensures c.in-Got.is) c.requires w.on_expression_dot-start.ensures.0 (document_dot_lem c.in-Got.t.kind _ c.in_document-x.ensures w.in-Dot.is) (λ loop. document_at _ _ _ _ (told _ _ _ _ _ c.next-step.ensures c.in-Got.is) _ _ c.in_document-x.ensures w.in-Dot.is c.args.settings.levels loop) (λ all. w.on_expression_dot-start.ensures.2 all _), w.on_expression_dot-start.auto.events)
     ] in
     j.0.good
 
 pub returns : goal.returns
 returns c =
     let j : Met c.args.settings.levels c.args.s.now c.args.c (bufs c.args.events.now c.args.errors.now c.args.m) c.match-x.from c.match-x.events c.args.errors.now c.match-x.n c.match-x.message (length c.args.events.now) = elim c.match-x.branch [
-      in-Key w ↦ meet c.args.errors.now w.events-is (w.from-is ∙ w.on_expression_key-start.ensures.0) w.n-is (w.message-is ∙ w.on_expression_key-start.ensures.1) (begun_key c.args.settings.levels (told _ _ _ _ _ c.next-step.ensures c.in-Got.is) w.in-Key.e (λ loop. document_at _ _ _ _ (told _ _ _ _ _ c.next-step.ensures c.in-Got.is) _ _ c.in_document-x.ensures w.in-Key.is c.args.settings.levels loop) (λ all. w.on_expression_key-start.ensures.2 all _), w.on_expression_key-start.auto.events)
-    | in-Equals w ↦ meet c.args.errors.now w.events-is w.from-is w.n-is w.message-is (begun_equals c.args.settings.levels (told _ _ _ _ _ c.next-step.ensures c.in-Got.is) c.requires w.back-from.ensures _ (document_equals_lem c.in-Got.t.kind _ c.in_document-x.ensures w.in-Equals.is) (λ loop. document_at _ _ _ _ (told _ _ _ _ _ c.next-step.ensures c.in-Got.is) _ _ c.in_document-x.ensures w.in-Equals.is c.args.settings.levels loop) (λ all. w.empty_key-n.ensures all _), w.empty_key-n.auto.events)
-    | in-Dot w ↦ meet c.args.errors.now w.events-is w.from-is w.n-is (w.message-is ∙ w.on_expression_dot-start.ensures.1) (begun_dot c.args.settings.levels (told _ _ _ _ _ c.next-step.ensures c.in-Got.is) c.requires w.on_expression_dot-start.ensures.0 (document_dot_lem c.in-Got.t.kind _ c.in_document-x.ensures w.in-Dot.is) (λ loop. document_at _ _ _ _ (told _ _ _ _ _ c.next-step.ensures c.in-Got.is) _ _ c.in_document-x.ensures w.in-Dot.is c.args.settings.levels loop) (λ all. w.on_expression_dot-start.ensures.2 all _), w.on_expression_dot-start.auto.events)
+      | in-Key w ↦ meet c.args.errors.now w.events-is (w.from-is ∙ w.on_expression_key-start.ensures.0) w.n-is (w.message-is ∙ w.on_expression_key-start.ensures.1) (begun_key c.args.settings.levels (told _ _ _ _ _ c.next-step.ensures c.in-Got.is) w.in-Key.e (λ loop. document_at _ _ _ _ (told _ _ _ _ _ c.next-step.ensures c.in-Got.is) _ _ c.in_document-x.ensures w.in-Key.is c.args.settings.levels loop) (λ all. w.on_expression_key-start.ensures.2 all _), w.on_expression_key-start.auto.events)
+      | in-Equals w ↦ meet c.args.errors.now w.events-is w.from-is w.n-is w.message-is (begun_equals c.args.settings.levels (told _ _ _ _ _ c.next-step.ensures c.in-Got.is) c.requires w.back-from.ensures _ (document_equals_lem c.in-Got.t.kind _ c.in_document-x.ensures w.in-Equals.is) (λ loop. document_at _ _ _ _ (told _ _ _ _ _ c.next-step.ensures c.in-Got.is) _ _ c.in_document-x.ensures w.in-Equals.is c.args.settings.levels loop) (λ all. w.empty_key-n.ensures all _), w.empty_key-n.auto.events)
+      | in-Dot w ↦ meet c.args.errors.now w.events-is w.from-is w.n-is (w.message-is ∙ w.on_expression_dot-start.ensures.1) (begun_dot c.args.settings.levels (told _ _ _ _ _ c.next-step.ensures c.in-Got.is) c.requires w.on_expression_dot-start.ensures.0 (document_dot_lem c.in-Got.t.kind _ c.in_document-x.ensures w.in-Dot.is) (λ loop. document_at _ _ _ _ (told _ _ _ _ _ c.next-step.ensures c.in-Got.is) _ _ c.in_document-x.ensures w.in-Dot.is c.args.settings.levels loop) (λ all. w.on_expression_dot-start.ensures.2 all _), w.on_expression_dot-start.auto.events)
     ] in
     record { g = j.0.g; walk = j.0.walk _ _ _ c.key_and_value-walk.ensures; goes_on_lem = λ q. j.0.turn; ends = λ q. absurd (false≢true q); further = λ q. j.0.further _ _ _ c.key_and_value-walk.ensures }

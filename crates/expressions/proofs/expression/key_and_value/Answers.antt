@@ -29,24 +29,24 @@ opt_whitespace-v-requires c = c.dot_keys-k.ensures.goes.good
 pub next_token_if-step-requires : goal.next_token_if-step-requires
 next_token_if-step-requires c =
     let j : Met c.args.s.now c.args.c (bufs c.args.events.now c.args.errors.now c.args.m) c.match-seen.events c.match-seen.errors (record { cur = c.match-seen.cur; n = c.match-seen.n }) (length c.args.events.now) (length c.args.errors.now) = elim c.match-seen.branch [
-      in-Got w ↦ meet _ w.events-is w.errors-is w.cur-is w.n-is (before_equals c.requires c.opt_whitespace-w.ensures (told_if _ _ _ _ _ _ c.next_token_if-seen.ensures w.in-Got.is), c.opt_whitespace-w.auto.events, c.opt_whitespace-w.auto.errors)
-    | in-Done w ↦ meet _ w.events-is w.errors-is w.cur-is w.n-is (before_dots c.requires c.opt_whitespace-w.ensures w.dot_keys-k.ensures.goes w.opt_whitespace-v.ensures, w.opt_whitespace-v.auto.events ∙ w.dot_keys-k.auto.events ∙ c.opt_whitespace-w.auto.events, w.opt_whitespace-v.auto.errors ∙ w.dot_keys-k.auto.errors ∙ c.opt_whitespace-w.auto.errors)
+      | in-Got w ↦ meet _ w.events-is w.errors-is w.cur-is w.n-is (before_equals c.requires c.opt_whitespace-w.ensures (told_if _ _ _ _ _ _ c.next_token_if-seen.ensures w.in-Got.is), c.opt_whitespace-w.auto.events, c.opt_whitespace-w.auto.errors)
+      | in-Done w ↦ meet _ w.events-is w.errors-is w.cur-is w.n-is (before_dots c.requires c.opt_whitespace-w.ensures w.dot_keys-k.ensures.goes w.opt_whitespace-v.ensures, w.opt_whitespace-v.auto.events ∙ w.dot_keys-k.auto.events ∙ c.opt_whitespace-w.auto.events, w.opt_whitespace-v.auto.errors ∙ w.dot_keys-k.auto.errors ∙ c.opt_whitespace-w.auto.errors)
     ] in
     j.0.goes.good
 
 pub no_equals-z-requires : goal.no_equals-z-requires
 no_equals-z-requires c =
     let j : Met c.args.s.now c.args.c (bufs c.args.events.now c.args.errors.now c.args.m) c.match-seen.events c.match-seen.errors (record { cur = c.match-seen.cur; n = c.match-seen.n }) (length c.args.events.now) (length c.args.errors.now) = elim c.match-seen.branch [
-      in-Got w ↦ meet _ w.events-is w.errors-is w.cur-is w.n-is (before_equals c.requires c.opt_whitespace-w.ensures (told_if _ _ _ _ _ _ c.next_token_if-seen.ensures w.in-Got.is), c.opt_whitespace-w.auto.events, c.opt_whitespace-w.auto.errors)
-    | in-Done w ↦ meet _ w.events-is w.errors-is w.cur-is w.n-is (before_dots c.requires c.opt_whitespace-w.ensures w.dot_keys-k.ensures.goes w.opt_whitespace-v.ensures, w.opt_whitespace-v.auto.events ∙ w.dot_keys-k.auto.events ∙ c.opt_whitespace-w.auto.events, w.opt_whitespace-v.auto.errors ∙ w.dot_keys-k.auto.errors ∙ c.opt_whitespace-w.auto.errors)
+      | in-Got w ↦ meet _ w.events-is w.errors-is w.cur-is w.n-is (before_equals c.requires c.opt_whitespace-w.ensures (told_if _ _ _ _ _ _ c.next_token_if-seen.ensures w.in-Got.is), c.opt_whitespace-w.auto.events, c.opt_whitespace-w.auto.errors)
+      | in-Done w ↦ meet _ w.events-is w.errors-is w.cur-is w.n-is (before_dots c.requires c.opt_whitespace-w.ensures w.dot_keys-k.ensures.goes w.opt_whitespace-v.ensures, w.opt_whitespace-v.auto.events ∙ w.dot_keys-k.auto.events ∙ c.opt_whitespace-w.auto.events, w.opt_whitespace-v.auto.errors ∙ w.dot_keys-k.auto.errors ∙ c.opt_whitespace-w.auto.errors)
     ] in
     j.0.goes.good
 
 pub returns-in_default : goal.returns-in_default
 returns-in_default c =
     let j : Met c.args.s.now c.args.c (bufs c.args.events.now c.args.errors.now c.args.m) c.match-seen.events c.match-seen.errors (record { cur = c.match-seen.cur; n = c.match-seen.n }) (length c.args.events.now) (length c.args.errors.now) = elim c.match-seen.branch [
-      in-Got w ↦ meet _ w.events-is w.errors-is w.cur-is w.n-is (before_equals c.requires c.opt_whitespace-w.ensures (told_if _ _ _ _ _ _ c.next_token_if-seen.ensures w.in-Got.is), c.opt_whitespace-w.auto.events, c.opt_whitespace-w.auto.errors)
-    | in-Done w ↦ meet _ w.events-is w.errors-is w.cur-is w.n-is (before_dots c.requires c.opt_whitespace-w.ensures w.dot_keys-k.ensures.goes w.opt_whitespace-v.ensures, w.opt_whitespace-v.auto.events ∙ w.dot_keys-k.auto.events ∙ c.opt_whitespace-w.auto.events, w.opt_whitespace-v.auto.errors ∙ w.dot_keys-k.auto.errors ∙ c.opt_whitespace-w.auto.errors)
+      | in-Got w ↦ meet _ w.events-is w.errors-is w.cur-is w.n-is (before_equals c.requires c.opt_whitespace-w.ensures (told_if _ _ _ _ _ _ c.next_token_if-seen.ensures w.in-Got.is), c.opt_whitespace-w.auto.events, c.opt_whitespace-w.auto.errors)
+      | in-Done w ↦ meet _ w.events-is w.errors-is w.cur-is w.n-is (before_dots c.requires c.opt_whitespace-w.ensures w.dot_keys-k.ensures.goes w.opt_whitespace-v.ensures, w.opt_whitespace-v.auto.events ∙ w.dot_keys-k.auto.events ∙ c.opt_whitespace-w.auto.events, w.opt_whitespace-v.auto.errors ∙ w.dot_keys-k.auto.errors ∙ c.opt_whitespace-w.auto.errors)
     ] in
     record {
       nested = nested_after (next_token_if Kind.Equals (on_expression_key_val_sep c.args.settings.levels) (no_equals c.args.message)) j.0.goes (nested_as (sym (next_none _ _ Kind.Equals (on_expression_key_val_sep c.args.settings.levels) (no_equals c.args.message) (told_none _ _ _ _ c.next_token_if-step.ensures c.in_default.is))) (nested_same c.unstopped.ensures (nested_goes c.no_equals-z.ensures)));
@@ -60,8 +60,8 @@ on_expression_key_val_sep-requires c = (told_if _ _ _ _ _ _ c.next_token_if-step
 pub returns : goal.returns
 returns c =
     let j : Met c.args.s.now c.args.c (bufs c.args.events.now c.args.errors.now c.args.m) c.match-seen.events c.match-seen.errors (record { cur = c.match-seen.cur; n = c.match-seen.n }) (length c.args.events.now) (length c.args.errors.now) = elim c.match-seen.branch [
-      in-Got w ↦ meet _ w.events-is w.errors-is w.cur-is w.n-is (before_equals c.requires c.opt_whitespace-w.ensures (told_if _ _ _ _ _ _ c.next_token_if-seen.ensures w.in-Got.is), c.opt_whitespace-w.auto.events, c.opt_whitespace-w.auto.errors)
-    | in-Done w ↦ meet _ w.events-is w.errors-is w.cur-is w.n-is (before_dots c.requires c.opt_whitespace-w.ensures w.dot_keys-k.ensures.goes w.opt_whitespace-v.ensures, w.opt_whitespace-v.auto.events ∙ w.dot_keys-k.auto.events ∙ c.opt_whitespace-w.auto.events, w.opt_whitespace-v.auto.errors ∙ w.dot_keys-k.auto.errors ∙ c.opt_whitespace-w.auto.errors)
+      | in-Got w ↦ meet _ w.events-is w.errors-is w.cur-is w.n-is (before_equals c.requires c.opt_whitespace-w.ensures (told_if _ _ _ _ _ _ c.next_token_if-seen.ensures w.in-Got.is), c.opt_whitespace-w.auto.events, c.opt_whitespace-w.auto.errors)
+      | in-Done w ↦ meet _ w.events-is w.errors-is w.cur-is w.n-is (before_dots c.requires c.opt_whitespace-w.ensures w.dot_keys-k.ensures.goes w.opt_whitespace-v.ensures, w.opt_whitespace-v.auto.events ∙ w.dot_keys-k.auto.events ∙ c.opt_whitespace-w.auto.events, w.opt_whitespace-v.auto.errors ∙ w.dot_keys-k.auto.errors ∙ c.opt_whitespace-w.auto.errors)
     ] in
     record {
       nested = nested_after (next_token_if Kind.Equals (on_expression_key_val_sep c.args.settings.levels) (no_equals c.args.message)) j.0.goes (nested_as (sym (next_got _ _ _ _ Kind.Equals (on_expression_key_val_sep c.args.settings.levels) (no_equals c.args.message) (told_if _ _ _ _ _ _ c.next_token_if-step.ensures c.in-Got-step.is))) (nested_past (told_if _ _ _ _ _ _ c.next_token_if-step.ensures c.in-Got-step.is).1 c.on_expression_key_val_sep.ensures));

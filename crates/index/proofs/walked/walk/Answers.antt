@@ -1,5 +1,5 @@
 -- A turn writes the header that its event ends, if any, and notes the event; the end writes the last header.
-use Rattle.std.proofs.Common.{ℕ, List, ap, sym, ◌∙◌}
+use Rattle.std.proofs.Common.{ℕ, ap, sym, ◌∙◌}
 use Rattle.headers.specs.declared.state.IndexState.{IndexState}
 use Rattle.headers.specs.Headers.{opens_header, kinds_from}
 use Rattle.headers.specs.States.{state_after, state_behind}

@@ -12,7 +12,6 @@ use Rattle.output.specs.Pour.{bufs}
 use Rattle.output.specs.WalkLaws.{first_item, first_items, then_goes}
 use Rattle.inline_steps.specs.Steps.{eof_items, empty_key_items}
 use Rattle.inline_turns.proofs.InlineTableLaws.{table_at, action_tells, last_irregular, table_as}
-use borrow.Enum.Refused.{opened as among_is}
 use Rattle.inline_turns.proofs.irregular.irregular_turn.Goals as goal
 
 pub keyless_array-w-requires : goal.keyless_array-w-requires

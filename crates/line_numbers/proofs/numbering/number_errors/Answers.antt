@@ -17,7 +17,7 @@ pub returns : goal.returns
 returns c =
     let room = length c.args.errors.now / error_size in
     let e : c.if-room-n.stored ≡ stored c.args.n room = elim c.if-room-n.branch [
-      then-room-n w ↦ rw (lt-ltb room c.args.n w.if-room-n.true) w.stored-is
-    | else-room-n w ↦ rw (le-ltb room c.args.n w.if-room-n.false) w.stored-is
+      | then-room-n w ↦ rw (lt-ltb room c.args.n w.if-room-n.true) w.stored-is
+      | else-room-n w ↦ rw (le-ltb room c.args.n w.if-room-n.false) w.stored-is
     ] in
     c.number_first.ensures ∙ ap (λ (k : ℕ). numbered_first c.args.mode (all_tokens c.args.s.now c.args.base) k c.args.errors.now) e

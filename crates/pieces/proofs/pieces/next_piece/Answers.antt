@@ -3,7 +3,6 @@ use native.Mathlib.Omega.{arith}
 use mathlib.Core.Path.{sym, ◌∙◌}
 use Prim.Native.Nat.{◌-◌}
 use Rattle.pieces.proofs.PieceLaws.{event_held, seeking_begun, seeking_past, found_wrong, found_skipped, found_none}
-use borrow.Enum.Refused.{opened}
 use Rattle.pieces.proofs.pieces.next_piece.Goals as goal
 
 pub loop-at-init : goal.loop-at-init

@@ -2,7 +2,6 @@
 use mathlib.Core.Path.{sym, ◌∙◌}
 use Prim.Native.Nat.{◌-◌}
 use Rattle.pieces.proofs.PieceLaws.{event_held, skipping_begun, skipping_more, skipping_blank, skipped_over, skipped_end}
-use borrow.Enum.Refused.{opened}
 use Rattle.pieces.proofs.pieces.skip_on.Goals as goal
 
 pub loop-at-init : goal.loop-at-init

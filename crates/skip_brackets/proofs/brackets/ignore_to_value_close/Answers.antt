@@ -74,12 +74,12 @@ loop-t-smaller c = omega (arith, (told _ _ _ _ _ c.next-step.ensures c.in-Got.is
 pub loop-t-preserved : goal.loop-t-preserved
 loop-t-preserved c =
     let j : Erred c.args.s.now c.loop-t.cur c.in-Got.past c.in-Got.t c.args.closing c.loop-t.arrays c.loop-t.tables c.match-x.arrays c.match-x.tables = elim c.match-x.branch [
-      in-OpenSquare w ↦ at_open_square (told _ _ _ _ _ c.next-step.ensures c.in-Got.is) c.in_close-x.ensures c.args.closing c.loop-t.arrays c.loop-t.tables c.loop-t.invariant.3 c.loop-t.invariant.4 c.match-x.arrays c.match-x.tables w.in-OpenSquare.is w.arrays-is w.tables-is
-    | in-CloseSquare+then-arrays-eq0+in-Curly w ↦ at_square_skip (told _ _ _ _ _ c.next-step.ensures c.in-Got.is) c.in_close-x.ensures c.args.closing c.loop-t.arrays c.loop-t.tables c.loop-t.invariant.3 c.loop-t.invariant.4 c.match-x.arrays c.match-x.tables w.in-CloseSquare.is w.if-arrays-eq0.true w.in-Curly.is w.arrays-is w.tables-is
-    | in-CloseSquare+else-arrays-eq0 w ↦ at_square_down (told _ _ _ _ _ c.next-step.ensures c.in-Got.is) c.in_close-x.ensures c.args.closing c.loop-t.arrays c.loop-t.tables c.loop-t.invariant.3 c.loop-t.invariant.4 c.match-x.arrays c.match-x.tables w.in-CloseSquare.is w.if-arrays-eq0.false w.arrays-is w.tables-is
-    | in-OpenCurly w ↦ at_open_curly (told _ _ _ _ _ c.next-step.ensures c.in-Got.is) c.in_close-x.ensures c.args.closing c.loop-t.arrays c.loop-t.tables c.loop-t.invariant.3 c.loop-t.invariant.4 c.match-x.arrays c.match-x.tables w.in-OpenCurly.is w.arrays-is w.tables-is
-    | in-CloseCurly+then-tables-eq0+in-Square-closing w ↦ at_curly_skip (told _ _ _ _ _ c.next-step.ensures c.in-Got.is) c.in_close-x.ensures c.args.closing c.loop-t.arrays c.loop-t.tables c.loop-t.invariant.3 c.loop-t.invariant.4 c.match-x.arrays c.match-x.tables w.in-CloseCurly.is w.if-tables-eq0.true w.in-Square-closing.is w.arrays-is w.tables-is
-    | in-CloseCurly+else-tables-eq0 w ↦ at_curly_down (told _ _ _ _ _ c.next-step.ensures c.in-Got.is) c.in_close-x.ensures c.args.closing c.loop-t.arrays c.loop-t.tables c.loop-t.invariant.3 c.loop-t.invariant.4 c.match-x.arrays c.match-x.tables w.in-CloseCurly.is w.if-tables-eq0.false w.arrays-is w.tables-is
-    | in-Other w ↦ at_other (told _ _ _ _ _ c.next-step.ensures c.in-Got.is) c.in_close-x.ensures c.args.closing c.loop-t.arrays c.loop-t.tables c.loop-t.invariant.3 c.loop-t.invariant.4 c.match-x.arrays c.match-x.tables w.in-Other.is w.arrays-is w.tables-is
+      | in-OpenSquare w ↦ at_open_square (told _ _ _ _ _ c.next-step.ensures c.in-Got.is) c.in_close-x.ensures c.args.closing c.loop-t.arrays c.loop-t.tables c.loop-t.invariant.3 c.loop-t.invariant.4 c.match-x.arrays c.match-x.tables w.in-OpenSquare.is w.arrays-is w.tables-is
+      | in-CloseSquare+then-arrays-eq0+in-Curly w ↦ at_square_skip (told _ _ _ _ _ c.next-step.ensures c.in-Got.is) c.in_close-x.ensures c.args.closing c.loop-t.arrays c.loop-t.tables c.loop-t.invariant.3 c.loop-t.invariant.4 c.match-x.arrays c.match-x.tables w.in-CloseSquare.is w.if-arrays-eq0.true w.in-Curly.is w.arrays-is w.tables-is
+      | in-CloseSquare+else-arrays-eq0 w ↦ at_square_down (told _ _ _ _ _ c.next-step.ensures c.in-Got.is) c.in_close-x.ensures c.args.closing c.loop-t.arrays c.loop-t.tables c.loop-t.invariant.3 c.loop-t.invariant.4 c.match-x.arrays c.match-x.tables w.in-CloseSquare.is w.if-arrays-eq0.false w.arrays-is w.tables-is
+      | in-OpenCurly w ↦ at_open_curly (told _ _ _ _ _ c.next-step.ensures c.in-Got.is) c.in_close-x.ensures c.args.closing c.loop-t.arrays c.loop-t.tables c.loop-t.invariant.3 c.loop-t.invariant.4 c.match-x.arrays c.match-x.tables w.in-OpenCurly.is w.arrays-is w.tables-is
+      | in-CloseCurly+then-tables-eq0+in-Square-closing w ↦ at_curly_skip (told _ _ _ _ _ c.next-step.ensures c.in-Got.is) c.in_close-x.ensures c.args.closing c.loop-t.arrays c.loop-t.tables c.loop-t.invariant.3 c.loop-t.invariant.4 c.match-x.arrays c.match-x.tables w.in-CloseCurly.is w.if-tables-eq0.true w.in-Square-closing.is w.arrays-is w.tables-is
+      | in-CloseCurly+else-tables-eq0 w ↦ at_curly_down (told _ _ _ _ _ c.next-step.ensures c.in-Got.is) c.in_close-x.ensures c.args.closing c.loop-t.arrays c.loop-t.tables c.loop-t.invariant.3 c.loop-t.invariant.4 c.match-x.arrays c.match-x.tables w.in-CloseCurly.is w.if-tables-eq0.false w.arrays-is w.tables-is
+      | in-Other w ↦ at_other (told _ _ _ _ _ c.next-step.ensures c.in-Got.is) c.in_close-x.ensures c.args.closing c.loop-t.arrays c.loop-t.tables c.loop-t.invariant.3 c.loop-t.invariant.4 c.match-x.arrays c.match-x.tables w.in-Other.is w.arrays-is w.tables-is
     ] in
     (turn_again (value_close_turn c.args.closing) (λ f g w. refl) (opened c.loop-t.arrays c.loop-t.tables) c.loop-t.invariant.0 _ _ _ (j.is _ _ _ ∙ ((first_item _ _ _ _ _ (c.emit-n-in-loop-t.ensures _ _)))) (omega (arith, (told _ _ _ _ _ c.next-step.ensures c.in-Got.is).on)) (told _ _ _ _ _ c.next-step.ensures c.in-Got.is).base (told _ _ _ _ _ c.next-step.ensures c.in-Got.is).good, (c.emit-n-in-loop-t.auto.events) ∙ c.loop-t.invariant.1, (refl) ∙ c.loop-t.invariant.2, j.arrays, j.tables)

@@ -7,8 +7,8 @@ use Rattle.rules.specs.declared.options.Mode.{Mode}
 use Rattle.rules.specs.Words.{events_of, errors_of}
 use Rattle.rules.specs.Entries.{Entry, document_entry, key_entry, simple_key_entry, value_entry, parse}
 use Rattle.bounds.specs.Most.{most_events, most_errors}
-use Rattle.bounds.specs.DocumentRates.{low_two, low_three, low_one, low_errors}
-use Rattle.bounds.specs.EntryRates.{most_events_lem, most_errors_lem}
+use Rattle.bounds.proofs.DocumentRates.{low_two, low_three, low_one, low_errors}
+use Rattle.bounds.proofs.EntryRates.{most_events_lem, most_errors_lem}
 
 -- the most of any entry
 pub three_events : (e : Entry) (n : ℕ) → most_events e n ≤ 3 * n

@@ -26,7 +26,7 @@ use Rattle.bounds.specs.LineRates.{some, some_few, Skips, on_comment_skips, eof_
 use Rattle.bounds.specs.KeyRates.{key_leaves, key_told, on_scalar_single, on_scalar_left}
 use Rattle.bounds.specs.NestCosts.{on_open_spares}
 use Rattle.bounds.specs.ValueRates.{OneOf, flat, nested, ValueErrors, value_events, value_errors}
-use Rattle.bounds.specs.DocumentRates.{document_rates}
+use Rattle.bounds.proofs.DocumentRates.{document_rates}
 
 -- an entry's rule before its end: what is left gives an event a token, and one report
 pub record Leaving (e : Entry) (ts : List Tok) (o : Out) : Type 0 where

@@ -16,8 +16,8 @@ use Rattle.rules.specs.Words.{events_of, errors_of, Halt, ended, refused_level, 
 use Rattle.rules.specs.Entries.{Entry, parse}
 use Rattle.rules.specs.Answer.{event_size, error_size, refusal_by, walked, outcome_by, outcome}
 use Rattle.bounds.specs.Most.{most_events, most_errors}
-use Rattle.bounds.specs.EntryRates.{most_events_lem, most_errors_lem}
-use Rattle.bounds.specs.Bounds.{three_events, two_errors}
+use Rattle.bounds.proofs.EntryRates.{most_events_lem, most_errors_lem}
+use Rattle.bounds.proofs.Bounds.{three_events, two_errors}
 
 -- a refusal of the check is one of 1 to 5
 abbrev Low : Checked → Type 0

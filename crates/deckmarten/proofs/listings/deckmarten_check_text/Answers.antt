@@ -1,0 +1,6 @@
+-- The C structure holds the check's answer.
+use Rattle.export_listings.specs.MistakeExports.{exports_check}
+use Rattle.deckmarten.proofs.listings.deckmarten_check_text.Goals as goal
+
+pub returns : goal.returns
+returns c = exports_check _ _ _ _ _ _ _ _ _ _ _ c.exported_check.ensures c.check_text-r.ensures
