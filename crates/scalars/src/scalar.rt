@@ -27,11 +27,6 @@ pub struct Extent {
     pub encoding: Encoding,
 }
 
-// The Rust's unreachable!: nobody can meet what this requires, so a call of it is proved never to be reached.
-fn unreachable()
-    requires { ⊥ }
-{}
-
 // How far an unquoted scalar goes that reaches to `sofar`.
 fn reach_of(s: &[u8], c: Cursor, sofar: u32) -> Reach
     requires { Good s.now c }
@@ -90,14 +85,8 @@ fn extent_of(s: &[u8], t: Token, c: Cursor) -> Extent
                 encoding: Encoding::None,
             }
         }
-        Starting::Never => {
-            unreachable();
-            Extent {
-                cur: c,
-                end,
-                encoding: Encoding::None,
-            }
-        }
+        // Nothing comes here, and that is proved.
+        Starting::Never => unreachable!(),
     }
 }
 

@@ -16,6 +16,3 @@ returns-in-Quoted c = record { is = (scalar_by_lem c.args.t.kind c.args.t.start 
 
 pub returns-in-Unquoted : goal.returns-in-Unquoted
 returns-in-Unquoted c = record { is = (scalar_by_lem c.args.t.kind c.args.t.start c.args.t.end _ _ _ c.starting_of-x.ensures c.in-Unquoted.is) ∙ c.reach_of-r.ensures.is _; good = c.reach_of-r.ensures.good; on = c.reach_of-r.ensures.on; base = c.reach_of-r.ensures.base }
-
-pub returns-in-Never : goal.returns-in-Never
-returns-in-Never c = absurd (subst Starts (sym c.starting_of-x.ensures ∙ c.in-Never.is) c.requires.starts)
