@@ -84,7 +84,7 @@ module _ (levels : ℕ) {s : List ℕ} {start : Out} {o o₀ : Bufs} {cur cur₀
   step_over e = ends_by t.g (t.ends e Loop) t.walk
 
   pub step_stop : d.over ≡ false → d.walk.stopped ≡ true → Nested s start cur₀ o₀ a b d.walk
-  step_stop e f = ends_by (t.g then Loop tt) (t.goes_on_lem e Loop) (nested_stop (Loop tt) t.walk f)
+  step_stop e f = ends_by (t.g then Loop tt) (t.goes_on e Loop) (nested_stop (Loop tt) t.walk f)
 
   pub step_again : d.over ≡ false → d.walk.stopped ≡ false → Turns s (λ k. turns (document_turn levels) k tt (tokens_at s d.walk.cur)) start (bufs a b d.walk.n) o₀ d.walk.cur cur₀
   unfolding run
@@ -95,7 +95,7 @@ module _ (levels : ℕ) {s : List ℕ} {start : Out} {o o₀ : Bufs} {cur cur₀
       record {
         fuel = inv.fuel - 1;
         enough = fewer_left (document_turn levels) (λ f g w. refl) tt inv d.walk.cur (t.further e) y.good;
-        same = sym p ∙ ap (λ (x : Out). run All x o) (sym (t.goes_on_lem e Loop)) ∙ same;
+        same = sym p ∙ ap (λ (x : Out). run All x o) (sym (t.goes_on e Loop)) ∙ same;
         good = y.good;
         on = omega (arith, y.on, inv.on);
         base = y.base ∙ inv.base;

@@ -11,6 +11,6 @@ use Rattle.documents.specs.declared.document.DocumentTurn.{DocumentTurn}
 pub record Stepped (s : List ℕ) (rule : (Unit {0} → List Tok → Out) → Out) (c : Cursor) (o : Bufs) (a b : List ℕ) (d : DocumentTurn) : Type 0 where
   pub g : Out
   pub walk : Nested s g c o a b d.walk
-  pub goes_on_lem : d.over ≡ false → (loop : Unit {0} → List Tok → Out) → rule loop ≡ (g then loop tt)
+  pub goes_on : d.over ≡ false → (loop : Unit {0} → List Tok → Out) → rule loop ≡ (g then loop tt)
   pub ends : d.over ≡ true → (loop : Unit {0} → List Tok → Out) → rule loop ≡ g
   pub further : d.over ≡ false → c.at + 1 ≤ d.walk.cur.at

@@ -25,7 +25,7 @@ use Rattle.entry_steps.proofs.AnswerLaws.{outcome_ended, outcome_stopped}
 use Rattle.nest.specs.declared.nest.NestWalk.{NestWalk}
 use Rattle.nest.specs.Nested.{out_of, Nested}
 use Rattle.entry_steps.specs.declared.steps.Begun.{Begun}
-use Rattle.entry_steps.specs.Answers.{Answers, answerBy, answer_of, fresh, Starts, Begins, Entered}
+use Rattle.entry_steps.specs.Answers.{Answers, answer_by, answer_of, fresh, Starts, Begins, Entered}
 
 -- what was begun, by its case
 pub begun_refused : (s : List ℕ) (base : ℕ) {b : Begun} {r : Answer} → Begins s base b → b ≡ Begun.Refused r → (options : Options) (entry : Entry) (events errors : List ℕ) → Answers options entry s base events errors events errors r
@@ -54,12 +54,12 @@ entered {s} {base} {c} {n} entry rule q x w h k =
       start = x;
       rule = ap (λ (ts : List Tok). rule ts then eof) (at_start s c base x.at.at x.at.place) ∙ q;
       walk = w;
-      events-kept = h;
-      errors-kept = k;
+      events_kept = h;
+      errors_kept = k;
     }
 
 module _ (options : Options) (entry : Entry) (s : List ℕ) (base : ℕ) (evs ers : List ℕ) (p : checked s base ≡ Checked.Passed) (a b : List ℕ) (v : NestWalk) (g : Good s v.cur) where
-  by_stop : (y : Bool) → out_of y s a b v.n v.cur ≡ pour (all_tokens s base) (parse entry (all_tokens s base)).items (bufs evs ers fresh) → record { answer = answerBy y v (length evs / event_size) (length ers / error_size); events = a; errors = numbered options.mode (all_tokens s base) v.n.errors b } ≡ outcome options entry s base evs ers
+  by_stop : (y : Bool) → out_of y s a b v.n v.cur ≡ pour (all_tokens s base) (parse entry (all_tokens s base)).items (bufs evs ers fresh) → record { answer = answer_by y v (length evs / event_size) (length ers / error_size); events = a; errors = numbered options.mode (all_tokens s base) v.n.errors b } ≡ outcome options entry s base evs ers
   by_stop false e = sym (outcome_ended options entry s base evs ers p a b v.n e)
   by_stop true e =
       let z : v.cur.at - 1 ≡ count s - suc (length (tokens_at s v.cur)) = omega (arith, left_length s v.cur, g.low) in
@@ -77,7 +77,7 @@ entry_answers options {entry} {s} {base} {evs} {ers} {a' = a'} {b'} {b''} {v = v
     ∙ ap (λ (z : Counts). pour (all_tokens s base) (parse entry (all_tokens s base)).items (bufs evs ers z)) x.start.none in
     let lines : b'' ≡ numbered options.mode (all_tokens s base) v'.n.errors b' = d ∙ ap (λ (i : ℕ). numbered options.mode (all_tokens s i) v'.n.errors b') (x.walk.base ∙ x.start.at.base) in
     ap (λ (z : Answer). record { answer = z; events = a'; errors = b'' }) t
-    ∙ ap (λ (i : ℕ). record { answer = answer_of v' (i / event_size) (length b'' / error_size); events = a'; errors = b'' }) (h ∙ x.events-kept)
-    ∙ ap (λ (i : ℕ). record { answer = answer_of v' (length evs / event_size) (i / error_size); events = a'; errors = b'' }) (k ∙ x.errors-kept)
+    ∙ ap (λ (i : ℕ). record { answer = answer_of v' (i / event_size) (length b'' / error_size); events = a'; errors = b'' }) (h ∙ x.events_kept)
+    ∙ ap (λ (i : ℕ). record { answer = answer_of v' (length evs / event_size) (i / error_size); events = a'; errors = b'' }) (k ∙ x.errors_kept)
     ∙ ap (λ (l : List ℕ). record { answer = answer_of v' (length evs / event_size) (length ers / error_size); events = a'; errors = l }) lines
     ∙ by_stop options entry s base evs ers x.start.passed a' b' v' w.good v'.stopped wrote

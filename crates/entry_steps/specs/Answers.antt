@@ -49,8 +49,8 @@ pub record Entered (entry : Entry) (s : List ℕ) (base : ℕ) (events errors a 
   pub start : Starts s base c n
   pub rule : g then eof ≡ parse entry (all_tokens s base)
   pub walk : Nested s g c (bufs events errors n) a b v
-  pub events-kept : length a ≡ length events
-  pub errors-kept : length b ≡ length errors
+  pub events_kept : length a ≡ length events
+  pub errors_kept : length b ≡ length errors
 
 -- what an entry ends with: the answer r, whatever the entry, and the buffers after it
 abbrev pub Answered : Options → List ℕ → NestWalk → List ℕ → List ℕ → List ℕ → List ℕ → Answer → Type 0
@@ -61,9 +61,9 @@ abbrev pub Closed : List ℕ → NestWalk → List ℕ → List ℕ → List ℕ
 Closed s v a b a' b' v' = (g : Out) (c : Cursor) (o : Bufs) → Nested s g c o a b v → Nested s (g then eof) c o a' b' v'
 
 -- the answer of a walk, by the room for events and for errors
-abbrev pub answerBy : Bool → NestWalk → ℕ → ℕ → Answer
-answerBy true v eventRoom errorRoom = record { refusal = 6; place = v.cur.at - 1; events = v.n.events; errors = v.n.errors }
-answerBy false v eventRoom errorRoom = record { refusal = room_refusal (ltb eventRoom v.n.events) (ltb errorRoom v.n.errors); place = 0; events = v.n.events; errors = v.n.errors }
+abbrev pub answer_by : Bool → NestWalk → ℕ → ℕ → Answer
+answer_by true v event_room error_room = record { refusal = 6; place = v.cur.at - 1; events = v.n.events; errors = v.n.errors }
+answer_by false v event_room error_room = record { refusal = room_refusal (ltb event_room v.n.events) (ltb error_room v.n.errors); place = 0; events = v.n.events; errors = v.n.errors }
 
 abbrev pub answer_of : NestWalk → ℕ → ℕ → Answer
-answer_of v eventRoom errorRoom = answerBy v.stopped v eventRoom errorRoom
+answer_of v event_room error_room = answer_by v.stopped v event_room error_room

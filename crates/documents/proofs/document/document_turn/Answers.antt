@@ -24,7 +24,7 @@ returns-in_default c =
     stepped_as c.ended.ensures (record {
       g = done (tokens_at c.args.s.now c.args.c);
       walk = nested_goes (goes_by _ _ _ _ _ _ (λ base q. run_done _ _ _ _ _ _) c.requires (omega arith) refl);
-      goes_on_lem = λ q. absurd (false≢true (sym q));
+      goes_on = λ q. absurd (false≢true (sym q));
       ends = λ q loop. rule_end _ _ (document_turn c.args.settings.levels loop tt) done (told_done _ _ _ c.next-step.ensures c.in_default.is) refl;
       further = λ q. absurd (false≢true (sym q));
     })
@@ -40,7 +40,7 @@ returns-in-Eof c =
     stepped_as c.ended-in-Eof.ensures (record {
       g = done (tokens_at c.args.s.now c.in-Got.past);
       walk = nested_goes (goes_by _ _ _ _ _ _ (λ base q. run_done _ _ _ _ _ _) (told _ _ _ _ _ c.next-step.ensures c.in-Got.is).good (omega (arith, (told _ _ _ _ _ c.next-step.ensures c.in-Got.is).on)) (told _ _ _ _ _ c.next-step.ensures c.in-Got.is).base);
-      goes_on_lem = λ q. absurd (false≢true (sym q));
+      goes_on = λ q. absurd (false≢true (sym q));
       ends = λ q. (λ loop. document_at _ _ _ _ (told _ _ _ _ _ c.next-step.ensures c.in-Got.is) _ _ c.in_document-x.ensures c.in-Eof.is c.args.settings.levels loop);
       further = λ q. absurd (false≢true (sym q));
     })
@@ -53,7 +53,7 @@ returns-in_default-x c =
     stepped_as c.going_on.ensures (record {
       g = keyless c.in_document-x.result c.in-Got.t.start c.in-Got.t.end (tokens_at c.args.s.now c.in-Got.past);
       walk = nested_past (told _ _ _ _ _ c.next-step.ensures c.in-Got.is) (nested_goes c.keyless_turn-w.ensures);
-      goes_on_lem = λ q loop. document_keyless _ _ _ _ (told _ _ _ _ _ c.next-step.ensures c.in-Got.is) _ c.in_document-x.ensures (among_is c.in_default-x.in_default-x-own.keys5) c.args.settings.levels loop;
+      goes_on = λ q loop. document_keyless _ _ _ _ (told _ _ _ _ _ c.next-step.ensures c.in-Got.is) _ c.in_document-x.ensures (among_is c.in_default-x.in_default-x-own.keys5) c.args.settings.levels loop;
       ends = λ q. absurd (false≢true q);
       further = λ q. omega (arith, (told _ _ _ _ _ c.next-step.ensures c.in-Got.is).on, c.keyless_turn-w.ensures.on);
     })
@@ -74,4 +74,4 @@ returns c =
       | in-Equals w ↦ meet c.args.errors.now w.events-is w.from-is w.n-is w.message-is (begun_equals c.args.settings.levels (told _ _ _ _ _ c.next-step.ensures c.in-Got.is) c.requires w.back-from.ensures _ (document_equals_lem c.in-Got.t.kind _ c.in_document-x.ensures w.in-Equals.is) (λ loop. document_at _ _ _ _ (told _ _ _ _ _ c.next-step.ensures c.in-Got.is) _ _ c.in_document-x.ensures w.in-Equals.is c.args.settings.levels loop) (λ all. w.empty_key-n.ensures all _), w.empty_key-n.auto.events)
       | in-Dot w ↦ meet c.args.errors.now w.events-is w.from-is w.n-is (w.message-is ∙ w.on_expression_dot-start.ensures.1) (begun_dot c.args.settings.levels (told _ _ _ _ _ c.next-step.ensures c.in-Got.is) c.requires w.on_expression_dot-start.ensures.0 (document_dot_lem c.in-Got.t.kind _ c.in_document-x.ensures w.in-Dot.is) (λ loop. document_at _ _ _ _ (told _ _ _ _ _ c.next-step.ensures c.in-Got.is) _ _ c.in_document-x.ensures w.in-Dot.is c.args.settings.levels loop) (λ all. w.on_expression_dot-start.ensures.2 all _), w.on_expression_dot-start.auto.events)
     ] in
-    record { g = j.0.g; walk = j.0.walk _ _ _ c.key_and_value-walk.ensures; goes_on_lem = λ q. j.0.turn; ends = λ q. absurd (false≢true q); further = λ q. j.0.further _ _ _ c.key_and_value-walk.ensures }
+    record { g = j.0.g; walk = j.0.walk _ _ _ c.key_and_value-walk.ensures; goes_on = λ q. j.0.turn; ends = λ q. absurd (false≢true q); further = λ q. j.0.further _ _ _ c.key_and_value-walk.ensures }
