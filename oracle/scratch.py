@@ -1,24 +1,25 @@
 """The scratch repository of rules-differ: the definitions of the rules as they stand, without the project's code and proofs,
-and a crate of declarations that are to be checked over them."""
+and a crate of declarations that are to be checked over them. It lies outside the checkout, since rt ci refuses a file of Rattle that is in no crate there."""
+import atexit
 import os
 import re
 import shutil
 import subprocess
+import tempfile
 
 ROOT = os.path.dirname(os.path.dirname(os.path.abspath(__file__)))
-SCRATCH = os.path.join(ROOT, 'target/rules-differ')
+LOG = os.path.join(ROOT, 'target/rules-differ.log')
 UNTOUCHED = 3735928559  # what both buffers hold beforehand
 IN_A_FILE = 40  # declarations
 
 SHAPE = '''-- How a case is written down.
-use Prim.Native.Nat.{ℕ, zero, suc, _+_, _*_, _/_, _%_}
-use mathlib.Core.List.{List, [], _∷_, _++_}
-use Rattle·token.specs.Kinds.{kindOf}
-use Rattle·token.specs.Tokens.{Tok, tok}
-use Rattle·rules.specs.declared.options.Mode.{Mode}
-use Rattle·rules.specs.declared.options.Options.{Options}
-use Rattle·rules.specs.Answer.{Outcome, walked}
-use Rattle·rules.specs.Entries.{Entry, parse}
+use Rattle.std.specs.Prelude.{ℕ, zero, suc, ◌+◌, ◌/◌, ◌%◌, List, [], ◌∷◌, ◌++◌}
+use Rattle.token.specs.Kinds.{kind_of}
+use Rattle.token.specs.Tokens.{Tok, tok}
+use Rattle.rules.specs.declared.options.Mode.{Mode}
+use Rattle.rules.specs.declared.options.Options.{Options}
+use Rattle.rules.specs.Answer.{Outcome, walked}
+use Rattle.rules.specs.Entries.{Entry, parse}
 
 -- n numbers below `limit`, packed into one
 abbrev pub unpacked : ℕ → ℕ → ℕ → List ℕ
@@ -43,48 +44,46 @@ untouched n = repeated n UNTOUCHED
 abbrev pub lay : List ℕ → ℕ → List Tok
 lay [] p = []
 lay (kind ∷ []) p = []
-lay (kind ∷ length ∷ more) p = tok (kindOf kind) p (p + length) ∷ lay more (p + length)
+lay (kind ∷ long ∷ more) p = tok (kind_of kind) p (p + long) ∷ lay more (p + long)
 
 -- the options of a mode
-abbrev pub in-mode : Mode → Options
-in-mode mode = record { mode = mode }
+abbrev pub in_mode : Mode → Options
+in_mode mode = record { mode = mode }
 
 -- what an entry does with tokens that were checked
 abbrev pub walk : Mode → Entry → List Tok → List ℕ → List ℕ → Outcome
-walk mode entry all events errors = walked mode all (parse entry all .items) events errors
+walk mode entry all events errors = walked mode all ((parse entry all).items) events errors
 
 -- refusal, place and counts; then the written words of each buffer and how many are untouched
 abbrev pub gives : ℕ → ℕ → ℕ → ℕ → List ℕ → ℕ → List ℕ → ℕ → Outcome
-gives refusal place events errors eventWords eventsLeft errorWords errorsLeft =
+gives refusal place events errors event_words events_left error_words errors_left =
     record {
       answer = record { refusal = refusal; place = place; events = events; errors = errors };
-      events = eventWords ++ untouched eventsLeft;
-      errors = errorWords ++ untouched errorsLeft
+      events = event_words ++ untouched events_left;
+      errors = error_words ++ untouched errors_left
     }
 
-abbrev pub allWords : Outcome → List ℕ
-allWords o = o .answer .refusal ∷ o .answer .place ∷ o .answer .events ∷ o .answer .errors ∷ (o .events ++ o .errors)
+abbrev pub all_words : Outcome → List ℕ
+all_words o = o.answer.refusal ∷ o.answer.place ∷ o.answer.events ∷ o.answer.errors ∷ (o.events ++ o.errors)
 '''.replace('UNTOUCHED', str(UNTOUCHED))
 
 HEAD = '''-- Lists, and what the oracle answers.
-use Prim.Native.Nat.{ℕ}
-use mathlib.Core.Path.{_≡_, refl}
-use mathlib.Core.List.{List, [], _∷_}
-use lib.ListN.{getD}
-use Rattle·token.specs.Kinds.{kindOf}
-use Rattle·token.specs.Records.{lengthAt, kindNumberAt}
-use Rattle·token.specs.Tokens.{tokensFrom, allTokens}
-use Rattle·token.specs.Check.{checkedFrom, checked}
-use Rattle·rules.specs.Turns.{turns}
-use Rattle·rules.specs.Nest.{onOpen}
-use Rattle·rules.specs.Lines.{lineOf}
-use Rattle·rules.specs.declared.options.Mode.{Mode}
-use Rattle·rules.specs.Words.{lookedUp, commaBetween}
-use Rattle·rules.specs.Entries.{documentEntry, keyEntry, simpleKeyEntry, valueEntry}
-use Rattle·rules.specs.Answer.{Outcome, outcome, walked, filled}
-use Rattle·cases·specs.specs.Shape.{bytes, words, repeated, untouched, lay, in-mode, walk, gives, allWords}
+use mathlib.Core.Path.{refl}
+use Rattle.std.specs.Prelude.{◌≡◌, ℕ, List, [], ◌∷◌, get_or}
+use Rattle.token.specs.Kinds.{kind_of}
+use Rattle.token.specs.Records.{length_at, kind_number_at}
+use Rattle.token.specs.Tokens.{tokens_from, all_tokens}
+use Rattle.token.specs.Check.{checked_from, checked}
+use Rattle.rules.specs.Turns.{turns}
+use Rattle.rules.specs.Nest.{on_open}
+use Rattle.rules.specs.Lines.{line_of}
+use Rattle.rules.specs.declared.options.Mode.{Mode}
+use Rattle.rules.specs.Words.{looked_up, comma_between}
+use Rattle.rules.specs.Entries.{document_entry, key_entry, simple_key_entry, value_entry}
+use Rattle.rules.specs.Answer.{Outcome, outcome, walked, filled}
+use Rattle.cases.specs.Shape.{bytes, words, repeated, untouched, lay, in_mode, walk, gives, all_words}
 '''
-UNFOLDING = 'unfolding kindOf lengthAt kindNumberAt tokensFrom allTokens checkedFrom checked turns onOpen lineOf lookedUp commaBetween outcome walked filled'
+UNFOLDING = 'unfolding kind_of length_at kind_number_at tokens_from all_tokens checked_from checked turns on_open line_of looked_up comma_between outcome walked filled'
 
 
 def types_only(text):
@@ -96,8 +95,12 @@ def types_only(text):
         depth += sum(code.count(c) for c in '{([') - sum(code.count(c) for c in '})]')
         if depth == 0 and code.endswith(('}', ';')):
             head = next(code for code in item if code and not code.startswith('#'))
-            if re.match(r'(pub )?(struct|enum|mod) |use [\w:]*::[A-Z]\w*;', head):
+            used = re.fullmatch(r'use ([\w:]*)::(?:(\w+)|\{(.*)\});', ' '.join(item).strip())
+            types = [name for name in re.findall(r'\w+', used[2] or used[3]) if name[0].isupper()] if used else []
+            if re.match(r'(pub )?(struct|enum|mod) ', head):
                 kept += item
+            elif types:
+                kept.append(f'use {used[1]}::{{{", ".join(types)}}};')
             item = []
     return '\n'.join(kept) + '\n'
 
@@ -112,7 +115,7 @@ def reached(crates, names):
         found[crate].append(name)
         with open(f'{ROOT}/crates/{crate}/specs/{name}.antt', encoding='utf-8') as file:
             text = file.read()
-        todo += re.findall(r'^(?:pub )?use Rattle·(\w+)(?:·specs\.specs|\.specs)\.(\w+)', text, re.M)
+        todo += [(crate, name) for crate, name in re.findall(r'^(?:pub )?use Rattle\.(\w+)\.specs\.(\w+)', text, re.M) if crate in found]
     return found
 
 
@@ -123,10 +126,11 @@ def write(path, text):
 
 
 def lay_out_definitions():
-    """The scratch repository with the rules and what they stand on, without code and proofs."""
-    shutil.rmtree(SCRATCH + '/crates', ignore_errors=True)
+    """The scratch repository with the rules and what they stand on, without code and proofs. It is there until the program ends."""
+    root = tempfile.mkdtemp(prefix='rules-differ-')
+    atexit.register(shutil.rmtree, root, ignore_errors=True)
     for crate, names in reached(['token', 'rules'], [('rules', 'Answer')]).items():
-        here, there = f'{ROOT}/crates/{crate}', f'{SCRATCH}/crates/{crate}'
+        here, there = f'{ROOT}/crates/{crate}', f'{root}/crates/{crate}'
         for folder, _, files in os.walk(here + '/src'):
             for name in files:
                 with open(f'{folder}/{name}', encoding='utf-8') as file:
@@ -134,18 +138,21 @@ def lay_out_definitions():
         write(there + '/specs/Lib.antt', ''.join(f'pub mod {name}\n' for name in sorted(names)))
         for name in names:
             shutil.copy(f'{here}/specs/{name}.antt', f'{there}/specs/{name}.antt')
-    write(SCRATCH + '/crates.txt', 'token:\nrules: token\ncases: token rules\n')
-    write(SCRATCH + '/crates/cases/src/lib.rt', '// Lists on which the rules are compared with the oracle.\n')
+    write(root + '/crates.txt', 'token:\nrules: token\ncases: token rules\n')
+    write(root + '/crates/cases/src/lib.rt', '// Lists on which the rules are compared with the oracle.\n#![tactic(auto)]\n')
+    return root
 
 
-def check(declarations):
+def check(root, declarations):
     """What rt says of these declarations, and whether it accepts them."""
-    specs, names = SCRATCH + '/crates/cases/specs', ['Shape']
+    specs, names = root + '/crates/cases/specs', ['Shape']
     shutil.rmtree(specs, ignore_errors=True)
     write(specs + '/Shape.antt', SHAPE)
     for at in range(0, len(declarations), IN_A_FILE):
         names.append(f'Cases{at // IN_A_FILE}')
         write(f'{specs}/{names[-1]}.antt', HEAD + ''.join('\n' + text for text in declarations[at:at + IN_A_FILE]))
     write(specs + '/Lib.antt', ''.join(f'pub mod {name}\n' for name in names))
-    done = subprocess.run(['rt', 'check', 'cases'], cwd=SCRATCH, env={**os.environ, 'RT_CUT': '0'}, stdout=subprocess.PIPE, stderr=subprocess.STDOUT, text=True)
-    return done.returncode == 0, done.stdout
+    with open(LOG, 'w', encoding='utf-8') as log:
+        done = subprocess.run(['rt', 'check'], cwd=root + '/crates/cases', stdin=subprocess.DEVNULL, stdout=log, stderr=subprocess.STDOUT)
+    with open(LOG, encoding='utf-8', errors='replace') as log:
+        return done.returncode == 0, log.read()

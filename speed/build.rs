@@ -1,4 +1,4 @@
-//! Build script: links the archive that `rt staticlib deckmarten` writes.
+//! Build script: links the archive that tools/archive makes.
 
 fn main() {
     let dir = std::env::var("STATICLIB_DIR").expect("build with tools/link cargo");

@@ -77,7 +77,7 @@ fn main() {
     let folder = folder();
     let archive = folder.join("libdeckmarten.a");
     if !archive.is_file() {
-        stop(&format!("there is no {}. `rt staticlib deckmarten` writes it to target/staticlib", archive.display()));
+        stop(&format!("there is no {}. `tools/archive` puts it to target/staticlib", archive.display()));
     }
     check(&archive);
     println!("cargo:rerun-if-changed={}", archive.display());
