@@ -13,7 +13,7 @@ use Rattle.rules.specs.Array.{Nest, array_turn}
 use Rattle.output.specs.Pour.{Bufs, bufs}
 use Rattle.output.specs.TurnLaws.{Turns, fewer_left}
 use Rattle.array_parts.specs.declared.turn.Next.{Next}
-use Rattle.array_turns.specs.declared.array.ArrayTurn.{ArrayTurn}
+use Rattle.array_parts.specs.declared.turn.StateTurn.{StateTurn}
 use Rattle.array_parts.specs.Turning.{Further, Wants, Turned}
 use Rattle.array_runs.specs.Ran.{Enough, Ran}
 use Rattle.array_runs.specs.TurnedLaws.{turned, turn_next}
@@ -35,7 +35,7 @@ further_from (Next.OpenArray t) b c d l h = omega (arith, l, h)
 further_from (Next.OpenTable t) b c d l h = omega (arith, l, h)
 
 module _ {s : List ℕ} {head : Place} {w₀ w : ArrayState} {c cur : Cursor} {o₀ o : Bufs} (inv : Running s head w₀ c o₀ w o cur)
-    {a b : List ℕ} (r : ArrayTurn) (t : Turned ArrayState s (λ nest loop. array_turn head nest loop w (tokens_at s cur)) cur o a b r.turn.cur r.turn.n r.state r.turn.next) where
+    {a b : List ℕ} (r : StateTurn ArrayState) (t : Turned ArrayState s (λ nest loop. array_turn head nest loop w (tokens_at s cur)) cur o a b r.turn.cur r.turn.n r.state r.turn.next) where
   pub again_moved : r.turn.next ≡ Next.Again → cur.at + 1 ≤ r.turn.cur.at
   again_moved e = subst (λ (x : Next). Further x cur r.turn.cur) e t.on
 

@@ -10,7 +10,7 @@ use Rattle.rules.specs.Array.{Nest, array_turn}
 use Rattle.output.specs.Pour.{Bufs, bufs}
 use Rattle.output.specs.Walks.{run}
 use Rattle.array_parts.specs.declared.turn.Next.{Next}
-use Rattle.array_turns.specs.declared.array.ArrayTurn.{ArrayTurn}
+use Rattle.array_parts.specs.declared.turn.StateTurn.{StateTurn}
 use Rattle.array_parts.specs.Turning.{go_on, Further, Wants}
 
 -- so many turns are enough for the tokens left, unless no turn follows
@@ -27,7 +27,7 @@ pub record Left (s : List ℕ) (r : Out) (o : Bufs) (onward : ℕ → Out) (o' :
   pub same : run (all_tokens s c.base) r o ≡ run (all_tokens s c.base) (onward fuel) o'
 
 -- turns in the array that was opened at `head`, from cursor c, buffers o and state w, ended with the buffers a and b and as r says
-pub record Ran (s : List ℕ) (head : Place) (w : ArrayState) (c : Cursor) (o : Bufs) (a b : List ℕ) (r : ArrayTurn) : Type 0 where
+pub record Ran (s : List ℕ) (head : Place) (w : ArrayState) (c : Cursor) (o : Bufs) (a b : List ℕ) (r : StateTurn ArrayState) : Type 0 where
   pub is : (nest : Nest) (k : ℕ) → length (tokens_at s c) ≤ k
       → Left s (turns (array_turn head nest) k w (tokens_at s c)) o (λ j. go_on r.turn.next nest (turns (array_turn head nest) j) r.state (tokens_at s r.turn.cur)) (bufs a b r.turn.n) r.turn.next c r.turn.cur
   pub good : Good s r.turn.cur

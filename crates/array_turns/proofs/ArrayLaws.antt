@@ -18,7 +18,7 @@ use Rattle.output.specs.Walks.{run}
 use Rattle.output.specs.WalkLaws.{at_token}
 use Rattle.scalars.specs.ScalarWalks.{Starts}
 use Rattle.scalars.specs.StartLaws.{ScalarsStart, class_starts}
-use Rattle.array_turns.specs.declared.array.ArrayTurn.{ArrayTurn}
+use Rattle.array_parts.specs.declared.turn.StateTurn.{StateTurn}
 use Rattle.array_parts.specs.declared.turn.Turn.{Turn}
 use Rattle.array_parts.specs.Turning.{Turned, Wants, comma_items}
 
@@ -57,6 +57,6 @@ array_starts = class_starts in_array is_scalar InArray.Scalar refl (every_kind (
 
 -- an answer that is made by a function
 module _ {s : List ℕ} {c : Cursor} {o : Bufs} {a b : List ℕ} where
-  pub array_as : {rule : Nest → (ArrayState → List Tok → Out) → Out} {r : ArrayTurn} {t : Turn} {w : ArrayState} → r ≡ record { turn = t; state = w } → Turned ArrayState s rule c o a b t.cur t.n w t.next → Wants t.next w
+  pub array_as : {rule : Nest → (ArrayState → List Tok → Out) → Out} {r : StateTurn ArrayState} {t : Turn} {w : ArrayState} → r ≡ record { turn = t; state = w } → Turned ArrayState s rule c o a b t.cur t.n w t.next → Wants t.next w
       → Turned ArrayState s rule c o a b r.turn.cur r.turn.n r.state r.turn.next × Wants r.turn.next r.state
-  array_as {rule} e x y = subst (λ (z : ArrayTurn). Turned ArrayState s rule c o a b z.turn.cur z.turn.n z.state z.turn.next × Wants z.turn.next z.state) (sym e) (x, y)
+  array_as {rule} e x y = subst (λ (z : StateTurn ArrayState). Turned ArrayState s rule c o a b z.turn.cur z.turn.n z.state z.turn.next × Wants z.turn.next z.state) (sym e) (x, y)

@@ -5,14 +5,13 @@ ghost use Rattle.rules.specs.Out.{span};
 ghost use Rattle.rules.specs.Array.{array_turn};
 ghost use Rattle.rules.specs.declared.array.ArrayState.{ArrayState};
 ghost use Rattle.output.specs.Pour.{bufs};
-ghost use Rattle.array_parts.specs.declared.turn.Next.{Next};
 ghost use Rattle.array_parts.specs.Turning.{Turned, Wants};
 
 use array_parts::parts::{comma, missing_comma};
-use array_parts::turn::{Next, Turn, unclosed};
+use array_parts::turn::{Next, StateTurn, again, again_walk, opening, over, unclosed};
 use classes::array::in_array;
 use lone_brackets::without_open;
-use output::emitting::{Counts, Walk, emit, report_at};
+use output::emitting::{Counts, emit, report_at};
 use output::expected::{CLOSE_SQUARE, VALUE_OR_CLOSE_SQUARE};
 use output::message::{UNCLOSED_ARRAY, UNEXPECTED_EQUALS_IN_ARRAY};
 use rules::array::{ArrayState, InArray};
@@ -20,56 +19,10 @@ use rules::event::Event;
 use rules::skipping::Bracket;
 use scalars::scalar::on_scalar;
 use skip_lines::skipping::on_comment;
-use token::cursor::{Cursor, Step, Token};
+use token::cursor::{Cursor, Token};
 
-// A turn, and the state behind it.
-#[derive(Clone, Copy)]
-pub struct ArrayTurn {
-    pub turn: Turn,
-    pub state: ArrayState,
-}
-
-// Another turn, behind which the array is in a state, and so wants a value or a comma.
-fn again(cur: Cursor, n: Counts, state: ArrayState) -> ArrayTurn
-    ensures { result ≡ record { turn = record { cur = cur; n = n; next = Next.Again }; state = state } }
-{
-    let turn = Turn {
-        cur,
-        n,
-        next: Next::Again,
-    };
-    ArrayTurn { turn, state }
-}
-
-// The same, from where a walk ended.
-fn again_walk(w: Walk, state: ArrayState) -> ArrayTurn
-    ensures { result ≡ record { turn = record { cur = w.cur; n = w.n; next = Next.Again }; state = state } }
-{
-    again(w.cur, w.n, state)
-}
-
-// The end of the array.
-fn over(cur: Cursor, n: Counts, state: ArrayState) -> ArrayTurn
-    ensures { result ≡ record { turn = record { cur = cur; n = n; next = Next.Over }; state = state } }
-{
-    let turn = Turn {
-        cur,
-        n,
-        next: Next::Over,
-    };
-    ArrayTurn { turn, state }
-}
-
-// First what a bracket opens, behind which a comma is wanted.
-fn opening(cur: Cursor, n: Counts, next: Next) -> ArrayTurn
-    ensures { result ≡ record { turn = record { cur = cur; n = n; next = next }; state = ArrayState.NeedsComma } }
-{
-    let turn = Turn { cur, n, next };
-    ArrayTurn {
-        turn,
-        state: ArrayState::NeedsComma,
-    }
-}
+// A turn in an array, and what the array wants behind it.
+pub type ArrayTurn = StateTurn<ArrayState>;
 
 // One turn in the array that `head` opened.
 pub fn array_turn(
@@ -84,8 +37,7 @@ pub fn array_turn(
     requires { Good s.now c }
     ensures { Turned ArrayState s.now (λ nest loop. array_turn (span head.start head.end) nest loop state (tokens_at s.now c)) c (bufs events.old errors.old m) events.new errors.new result.turn.cur result.turn.n result.state result.turn.next × Wants result.turn.next result.state }
 {
-    let step = c.next(s);
-    let Step::Got(t, past) = step else {
+    let Some((t, past)) = c.next(s) else {
         let list = s;
         let from = c;
         let sofar = m;
@@ -101,9 +53,7 @@ pub fn array_turn(
         );
         return over(c, n, state);
     };
-    let k = t.kind;
-    let x = in_array(k);
-    match x {
+    match in_array(t.kind) {
         InArray::Comment => {
             let list = s;
             let remark = t;
@@ -143,7 +93,7 @@ pub fn array_turn(
         }
         InArray::OpenCurly => {
             let n = missing_comma(m, state, head, t, events, errors);
-            opening(past, n, Next::OpenTable(t))
+            opening(past, n, Next::OpenTable(t), ArrayState::NeedsComma)
         }
         InArray::CloseCurly => {
             let h = missing_comma(m, state, head, t, events, errors);
@@ -152,7 +102,7 @@ pub fn array_turn(
         }
         InArray::OpenSquare => {
             let n = missing_comma(m, state, head, t, events, errors);
-            opening(past, n, Next::OpenArray(t))
+            opening(past, n, Next::OpenArray(t), ArrayState::NeedsComma)
         }
         InArray::CloseSquare => {
             let n = emit(events, m, Event::ArrayClose, t.start, t.end);

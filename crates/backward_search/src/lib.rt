@@ -28,18 +28,9 @@ fn is_sought(what: Sought, kind: Kind) -> bool
 {
     let class = in_search(kind);
     match what {
-        Sought::Significant => match class {
-            InSearch::Whitespace | InSearch::Trivia => false,
-            _ => true,
-        },
-        Sought::Comma => match class {
-            InSearch::Comma => true,
-            _ => false,
-        },
-        Sought::Solid => match class {
-            InSearch::Whitespace => false,
-            _ => true,
-        },
+        Sought::Significant => !matches!(class, InSearch::Whitespace | InSearch::Trivia),
+        Sought::Comma => matches!(class, InSearch::Comma),
+        Sought::Solid => !matches!(class, InSearch::Whitespace),
     }
 }
 
@@ -48,10 +39,8 @@ pub fn nearest_before(c: Cursor, s: &[u8], what: Sought, none: Span, first: usiz
     requires { Good s.now c }
     ensures { result ≡ nearest_between what none first c.at (all_tokens s.now c.base) }
 {
-    let mut at = c.at;
     let mut place = c.place;
-    while first < at {
-        at -= 1;
+    for at in (first..c.at).rev() {
         let end = place;
         place -= length_at(s, at);
         if is_sought(what, kind_at(s, at)) {

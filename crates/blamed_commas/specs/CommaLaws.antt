@@ -90,9 +90,6 @@ pub record Back (s : List ℕ) (base upto at end line : ℕ) : Type 0 where
   pub same : (first start : ℕ) → comma_between (all_tokens s base) first upto start ≡ comma_between (all_tokens s base) first at start
   pub sum : line ≡ newlines_to at s + 1
 
-pub back_begun : {s : List ℕ} {p : LinePoint} → Counted s p.cur.base p → Back s p.cur.base p.cur.at p.cur.at p.cur.place p.line
-back_begun x = record { good = x.good; high = omega arith; same = λ first start. refl; sum = x.sum }
-
 module _ {s : List ℕ} {base upto at end line : ℕ} (x : Back s base upto at end line) (z : 0 < at) where
   -- the length of the record before is taken off
   pub back_length : {len : ℕ} → len ≡ length_at s (at - 1) → len ≤ end
@@ -100,10 +97,6 @@ module _ {s : List ℕ} {base upto at end line : ℕ} (x : Back s base upto at e
 
   before_this : {kind : Kind} → kind ≡ kind_at s (at - 1) → newlines_to at s ≡ newlines_to (at - 1) s + newlines kind
   before_this q = let e : at - 1 + 1 ≡ at = omega (arith, z) in ap (λ (i : ℕ). newlines_to i s) (sym e) ∙ newlines_next s (at - 1) ∙ ap (λ (k : Kind). newlines_to (at - 1) s + newlines k) (sym q)
-
-  -- and its line, if it ends one
-  pub back_lines : {kind : Kind} → kind ≡ kind_at s (at - 1) → (n : ℕ) → n ≡ newlines kind → n ≤ line
-  back_lines q n e = omega (arith, e, x.sum, before_this q)
 
   module _ {len : ℕ} {kind : Kind} (l : len ≡ length_at s (at - 1)) (q : kind ≡ kind_at s (at - 1)) where
     missed : is_sought Sought.Comma kind ≡ false → (first start : ℕ) (b : Bool) → ltb first at ≡ b → comma_between (all_tokens s base) first at start ≡ comma_between (all_tokens s base) first (at - 1) start
@@ -142,20 +135,3 @@ module _ {s : List ℕ} {base upto at end line : ℕ} (x : Back s base upto at e
           last = λ first start. x.same first start ∙ hit e first start (ltb first at) refl;
           lined = λ h. lines ∙ own ∙ ap (line_of (all_tokens s base)) (sym here);
         }
-
--- there is none down to the record up to which it was known
-pub back_known : {s : List ℕ} {base upto at end line : ℕ} {comma : Comma} → Back s base upto at end line → comma.upto ≡ at → Known s base comma
-    → Known s base (record { upto = upto; behind = comma.behind; start = comma.start; end = comma.end; line = comma.line })
-back_known {s} {base} {comma = comma} x e k =
-    record {
-      behind = omega (arith, x.high, e, k.behind);
-      last = λ first start. x.same first start ∙ ap (λ (i : ℕ). comma_between (all_tokens s base) first i start) (sym e) ∙ k.last first start;
-      lined = k.lined;
-    }
-
--- the base of a list is that of every point of it
-pub known_of : {s : List ℕ} {a base : ℕ} {comma : Comma} → a ≡ base → Known s a comma → Known s base comma
-known_of {s} {comma = comma} e k = subst (λ (b : ℕ). Known s b comma) e k
-
-pub known_own : {s : List ℕ} {a base : ℕ} {comma : Comma} → a ≡ base → Known s base comma → Known s a comma
-known_own e k = known_of (sym e) k

@@ -5,12 +5,12 @@ ghost use Rattle.token.specs.Search.{is_sought};
 ghost use Rattle.line_points.specs.Points.{Counted};
 ghost use Rattle.blamed_commas.specs.Commas.{Known};
 
-use backward_search::in_search;
 use line_points::points::{LinePoint, newlines};
-use token::kind::{InSearch, Kind};
+use token::kind::Kind;
 use token::record::{kind_at, length_at};
 
-// The last Comma before the record `upto`: the record behind it, 0 if there is none; its span; its line.
+// The last Comma before the record `upto`: the record behind it, 0 if there is none; its span; its line. A number and no Option, since one test,
+// whether it is past the first record that counts, tells of one that is too early and of none.
 #[derive(Clone, Copy)]
 pub struct Comma {
     pub upto: usize,
@@ -36,21 +36,14 @@ pub fn no_comma() -> Comma
 fn is_comma(kind: Kind) -> bool
     ensures { result ≡ is_sought Sought.Comma kind }
 {
-    let class = in_search(kind);
-    match class {
-        InSearch::Comma => true,
-        _ => false,
-    }
+    kind == Kind::Comma
 }
 
 // What is known itself, or nothing where it goes past the record.
 fn not_later(known: Comma, upto: usize) -> Comma
     ensures { ((s : List ℕ) (base : ℕ) → Known s base known → Known s base result) × (result.upto ≤ upto) }
 {
-    if upto < known.upto {
-        return no_comma();
-    }
-    known
+    if upto < known.upto { no_comma() } else { known }
 }
 
 // The last comma before a point: back from it to where the search before began, whose comma it is if there is none on the way. Along the errors
@@ -60,35 +53,24 @@ pub fn comma_from(s: &[u8], known: Comma, p: LinePoint) -> Comma
     requires known { Known s.now p.cur.base known }
     ensures { Known s.now p.cur.base result × (result.upto ≡ p.cur.at) }
 {
-    let cur = p.cur;
-    let upto = cur.at;
+    let upto = p.cur.at;
     let before = not_later(known, upto);
-    let first = before.upto;
-    let mut at = upto;
-    let mut end = cur.place;
+    let mut end = p.cur.place;
     let mut line = p.line;
-    while first < at {
-        let i = at - 1;
+    for i in (before.upto..upto).rev() {
         let start = end - length_at(s, i);
         let kind = kind_at(s, i);
         if is_comma(kind) {
             return Comma {
                 upto,
-                behind: at,
+                behind: i + 1,
                 start,
                 end,
                 line,
             };
         }
         line -= newlines(kind);
-        at = i;
         end = start;
     }
-    Comma {
-        upto,
-        behind: before.behind,
-        start: before.start,
-        end: before.end,
-        line: before.line,
-    }
+    Comma { upto, ..before }
 }

@@ -5,7 +5,7 @@ use mathlib.Core.List.{List, [], ◌∷◌}
 use Prim.Native.Nat.{ℕ, zero, suc, ◌+◌, ◌≤◌, ◌<◌}
 use native.Mathlib.Omega.{arith}
 use lib.ListN.{length}
-use Rattle.token.specs.declared.checked.Checked.{Checked}
+use Rattle.std.specs.Prelude.{Ok}
 use Rattle.token.specs.declared.kind.Kind.{Kind}
 use Rattle.token.specs.declared.kind.Kind.TheVariants.{Dot, Equals, LeftSquareBracket, LeftCurlyBracket, RightCurlyBracket, Comment, Newline, Atom}
 use Rattle.token.specs.Limits.{max_records, max_end}
@@ -88,7 +88,7 @@ module _ (n : ℕ) (ts : List Tok) (l : Lies 0 n ts) (size : length ts ≡ n) (f
   short : end_of 0 ts ≤ max_end
   short = omega (arith, l.end, few)
 
-  passes : checked (records_of ts) 0 ≡ Checked.Passed
+  passes : checked (records_of ts) 0 ≡ Ok tt
   passes = pass_back l.laid short (omega (arith, size, few))
 
   read : all_tokens (records_of ts) 0 ≡ ts

@@ -1,15 +1,16 @@
 -- The counts of an answer are within the most, and with room for it no refusal comes for want of room. Proved; nothing here needs to be
 -- believed.
-use Rattle.std.specs.Prelude.{◌≡◌, Bool, true, false, cond, List, ℕ, zero, suc, ◌+◌, ◌*◌, ◌/◌, ◌%◌, ◌≤◌, eqb, ltb}
+use Rattle.std.specs.Prelude.{◌≡◌, Bool, true, false, cond, List, ℕ, zero, suc, ◌+◌, ◌*◌, ◌/◌, ◌%◌, ◌≤◌, eqb, ltb, Option, Some, None, Ok, Err}
 use Rattle.std.proofs.Common.{subst, le-ltb}
 use native.Mathlib.Omega.{arith}
 use Rattle.std.proofs.Math.ListN.{length}
-use Rattle.token.specs.declared.checked.Checked.{Checked}
+use Rattle.token.specs.declared.refusal.Refusal.{Refusal}
+use Rattle.token.specs.Refusals.{refusal_number}
 use Rattle.token.specs.Limits.{max_records, max_end}
 use Rattle.token.specs.Kinds.{kind_of, width_of, width_fits}
 use Rattle.token.specs.Records.{count, length_at, kind_number_at}
 use Rattle.token.specs.Tokens.{all_tokens}
-use Rattle.token.specs.Check.{record_refusal, refused_at, checked_from, checked}
+use Rattle.token.specs.Check.{record_refusal, refused_at, checked_from, checked, Checked}
 use Rattle.token.specs.CursorLaws.{all_length}
 use Rattle.rules.specs.declared.options.Options.{Options}
 use Rattle.rules.specs.Words.{events_of, errors_of, Halt, ended, refused_level, halt_of}
@@ -21,25 +22,29 @@ use Rattle.bounds.proofs.Bounds.{three_events, two_errors}
 
 -- a refusal of the check is one of 1 to 5
 abbrev Low : Checked → Type 0
-Low Checked.Passed = Unit {0}
-Low (Checked.Refused r i) = r ≤ 5
+Low (Ok u) = Unit {0}
+Low (Err r) = refusal_number r.refusal ≤ 5
 
 cond_low : (t : Bool) (a b : Checked) → Low a → Low b → Low (cond t a b)
 cond_low true a b m n = m
 cond_low false a b m n = n
 
-cond_five : (t : Bool) (a b : ℕ) → a ≤ 5 → b ≤ 5 → cond t a b ≤ 5
+abbrev LowAt : Option Refusal → Type 0
+LowAt None = Unit {0}
+LowAt (Some r) = refusal_number r ≤ 5
+
+cond_five : (t : Bool) (a b : Option Refusal) → LowAt a → LowAt b → LowAt (cond t a b)
 cond_five true a b m n = m
 cond_five false a b m n = n
 
-record_five : (k n e : ℕ) → record_refusal k n e ≤ 5
+record_five : (k n e : ℕ) → LowAt (record_refusal k n e)
 record_five k n e =
     cond_five (ltb k 1) _ _ (omega arith)
-    (cond_five (ltb 16 k) _ _ (omega arith) (cond_five (width_fits (width_of (kind_of k)) n) _ _ (cond_five (ltb max_end e) _ _ (omega arith) (omega arith)) (omega arith)))
+    (cond_five (ltb 16 k) _ _ (omega arith) (cond_five (width_fits (width_of (kind_of k)) n) _ _ (cond_five (ltb max_end e) _ _ (omega arith) tt) (omega arith)))
 
-at_low : (r i : ℕ) (rest : Checked) → r ≤ 5 → Low rest → Low (refused_at r i rest)
-at_low zero i rest h n = n
-at_low (suc r) i rest h n = h
+at_low : (r : Option Refusal) (i : ℕ) (rest : Checked) → LowAt r → Low rest → Low (refused_at r i rest)
+at_low None i rest h n = n
+at_low (Some r) i rest h n = h
 
 from_low : (n : ℕ) (s : List ℕ) (i p : ℕ) → Low (checked_from n s i p)
 unfolding checked_from
@@ -79,8 +84,8 @@ module _ (options : Options) (e : Entry) (s : List ℕ) (base : ℕ) (events err
 
   by_check : (c : Checked) → ((outcome_by c options e s base events errors).answer.events ≤ most_events e (count s)) × ((outcome_by c options e s base events errors).answer.errors ≤ most_errors e (count s))
   unfolding walked
-  by_check Checked.Passed = (passed_events, passed_errors)
-  by_check (Checked.Refused r i) = (omega arith, omega arith)
+  by_check (Ok u) = (passed_events, passed_errors)
+  by_check (Err r) = (omega arith, omega arith)
 
   pub counts_most : ((outcome options e s base events errors).answer.events ≤ most_events e (count s)) × ((outcome options e s base events errors).answer.errors ≤ most_errors e (count s))
   unfolding outcome
@@ -91,19 +96,19 @@ module _ (options : Options) (e : Entry) (s : List ℕ) (base : ℕ) (events err
 
   seven_by : (c : Checked) → Low c → most_events e (count s) ≤ length events / event_size → (outcome_by c options e s base events errors).answer.refusal ≡ 7 → ⊥
   unfolding walked
-  seven_by Checked.Passed low h q =
+  seven_by (Ok u) low h q =
       let fits : length (events_of (all_tokens s base) (parse e (all_tokens s base)).items) ≤ length events / event_size = omega (arith, h, passed_events) in
       not_seven (halt_of (parse e (all_tokens s base)).items) _
       (subst (λ (b : Bool). refusal_by (halt_of (parse e (all_tokens s base)).items) b (ltb (length errors / error_size) (length (errors_of options.mode (all_tokens s base) (parse e (all_tokens s base)).items))) ≡ 7) (le-ltb _ _ fits) q)
-  seven_by (Checked.Refused r i) low h q = omega (arith, low, q)
+  seven_by (Err r) low h q = omega (arith, low, q)
 
   eight_by : (c : Checked) → Low c → most_errors e (count s) ≤ length errors / error_size → (outcome_by c options e s base events errors).answer.refusal ≡ 8 → ⊥
   unfolding walked
-  eight_by Checked.Passed low h q =
+  eight_by (Ok u) low h q =
       let fits : length (errors_of options.mode (all_tokens s base) (parse e (all_tokens s base)).items) ≤ length errors / error_size = omega (arith, h, passed_errors) in
       not_eight (halt_of (parse e (all_tokens s base)).items) _
       (subst (λ (b : Bool). refusal_by (halt_of (parse e (all_tokens s base)).items) (ltb (length events / event_size) (length (events_of (all_tokens s base) (parse e (all_tokens s base)).items))) b ≡ 8) (le-ltb _ _ fits) q)
-  eight_by (Checked.Refused r i) low h q = omega (arith, low, q)
+  eight_by (Err r) low h q = omega (arith, low, q)
 
   -- room for the most events, and for the most errors
   pub room_events : most_events e (count s) ≤ length events / event_size → (outcome options e s base events errors).answer.refusal ≡ 7 → ⊥
@@ -117,8 +122,8 @@ module _ (options : Options) (e : Entry) (s : List ℕ) (base : ℕ) (events err
   -- no other refusal comes
   eight_most : (c : Checked) → Low c → (outcome_by c options e s base events errors).answer.refusal ≤ 8
   unfolding walked
-  eight_most Checked.Passed low = low_refusal (halt_of (parse e (all_tokens s base)).items) _ _
-  eight_most (Checked.Refused r i) low = omega (arith, low)
+  eight_most (Ok u) low = low_refusal (halt_of (parse e (all_tokens s base)).items) _ _
+  eight_most (Err r) low = omega (arith, low)
 
   pub refusal_most : (outcome options e s base events errors).answer.refusal ≤ 8
   unfolding outcome

@@ -1,9 +1,12 @@
-// What a byte is to the lexer, by one look into the table of all bytes; and the ends of the tokens that are looked for by it.
+// What is told by the code of a byte; and the ends of the tokens that are looked for by it.
 ghost use Rattle.std.specs.Prelude.{◌≡◌, ◌≤◌, length, drop};
 ghost use Rattle.places.specs.Places.{Scanned, peeks};
-ghost use Rattle.scan.specs.Lexer.{start_of, ends_whitespace, ends_atom, lex_atom};
-ghost use Rattle.scan.specs.Codes.{code_of, code_table};
+ghost use Rattle.scan.specs.Lexer.{ends_whitespace, ends_atom, lex_atom};
 
+use crate::table::Codes;
+use places::until;
+
+// Codes are numbers and no enum, since one comparison tells a token of one byte, and its code is then the number that is written.
 // The last code of a byte that is a token alone: it is the number of the token's kind.
 pub const LAST_ALONE: u8 = 10;
 
@@ -15,55 +18,37 @@ const FIRST_IN_ATOM: u8 = 14;
 // The code of a byte that only an atom starts with.
 pub const OTHER: u8 = 16;
 
-pub fn code_of(codes: &[u8], b: u8) -> u8
-    requires { codes.now ≡ code_table }
-    ensures { result ≡ code_of (start_of b) }
-{
-    codes[b as usize]
-}
-
-// Whether a byte stands at `at` that ends whitespace.
-pub fn whitespace_ends(text: &[u8], codes: &[u8], at: usize) -> bool
-    requires { codes.now ≡ code_table }
-    ensures { result ≡ peeks ends_whitespace (drop at text.now) }
-{
-    if at < text.len() {
-        return code_of(codes, text[at]) != WSCHAR;
+impl Codes {
+    // Whether a byte stands at `at` that ends whitespace.
+    #[tactic(auto, using(places::specs::PlaceLaws::peeks_here, places::specs::PlaceLaws::peeks_out, scan::specs::CodeLaws::whitespace_code))]
+    pub fn whitespace_ends(&self, text: &[u8], at: usize) -> bool
+        ensures { result ≡ peeks ends_whitespace (drop at text.now) }
+    {
+        at < text.len() && self.code_of(text[at]) != WSCHAR
     }
-    false
-}
 
-fn ends_atom(codes: &[u8], b: u8) -> bool
-    requires { codes.now ≡ code_table }
-    ensures { result ≡ ends_atom b }
-{
-    code_of(codes, b) < FIRST_IN_ATOM
-}
+    #[tactic(auto, using(scan::specs::CodeLaws::atom_code))]
+    fn ends_atom(&self, b: u8) -> bool
+        ensures { result ≡ ends_atom b }
+    {
+        self.code_of(b) < FIRST_IN_ATOM
+    }
 
-// lex_atom, eight bytes a turn: the compiler writes out the loop over the eight.
-pub fn lex_atom_by_code(text: &[u8], codes: &[u8], at: usize) -> usize
-    requires at_in_bounds { at ≤ length text.now }
-    requires codes_value { codes.now ≡ code_table }
-    ensures { Scanned lex_atom text.now at result }
-{
-    let mut i = at;
-    while 8 <= text.len() - i {
-        let mut k = 0;
-        while k < 8 {
-            let over = ends_atom(codes, text[i + k]);
-            if over {
-                return i + k;
+    // lex_atom, eight bytes a turn: the compiler writes out the loop over the eight. Passing each by `until` takes half as many
+    // instructions again on long atoms.
+    pub fn lex_atom(&self, text: &[u8], at: usize) -> usize
+        requires { at ≤ length text.now }
+        ensures { Scanned lex_atom text.now at result }
+    {
+        let mut i = at;
+        while 8 <= text.len() - i {
+            for k in 0..8 {
+                if self.ends_atom(text[i + k]) {
+                    return i + k;
+                }
             }
-            k += 1;
+            i += 8;
         }
-        i += 8;
+        until(text, i, |b| self.ends_atom(b))
     }
-    while i < text.len() {
-        let over = ends_atom(codes, text[i]);
-        if over {
-            return i;
-        }
-        i += 1;
-    }
-    i
 }

@@ -4,9 +4,10 @@ ghost use Rattle.token.specs.Limits.{max_records, max_end};
 ghost use Rattle.token.specs.Records.{count};
 ghost use Rattle.token.specs.Check.{checked_from, passed, checked};
 
-use record_checks::{all_fit, lengths_of, record_refusal, widened};
-use token::checked::{Checked, MAX_END, MAX_RECORDS};
+use record_checks::{all_fit, lengths_of, record_refusal};
+use token::checked::{MAX_END, MAX_RECORDS, Refused};
 use token::record::{kind_number_at, length_at};
+use token::refusal::Refusal;
 
 // How many records `all_pass` asks in a turn. The compiler writes them out one after another, so that they share what the loop itself
 // costs: its counter and its test.
@@ -23,61 +24,62 @@ fn all_pass(s: &[u8], from: usize) -> bool
     let n = s.len() / 6;
     let turns = n / A_TURN;
     let mut end = from;
-    let mut turn = 0;
-    while turn < turns {
+    for turn in 0..turns {
         let lengths = lengths_of(s, turn * A_TURN, A_TURN);
-        if all_fit(s, turn * A_TURN, A_TURN) {
-            end += lengths;
-            turn += 1;
-        } else {
+        if !all_fit(s, turn * A_TURN, A_TURN) {
             return false;
         }
+        end += lengths;
     }
     let done = turns * A_TURN;
     let lengths = lengths_of(s, done, n % A_TURN);
-    if all_fit(s, done, n % A_TURN) {
-        return end + lengths <= MAX_END;
-    }
-    false
+    all_fit(s, done, n % A_TURN) && end + lengths <= MAX_END
 }
 
-// The first record that is refused, if any.
-fn first_refused(s: &[u8], from: usize) -> Checked
+// That every record passes, or the first that is refused.
+#[tactic(auto, using(token::specs::CheckLaws::from_passed, token::specs::CheckLaws::from_refused, token::specs::CheckLaws::from_end, token::specs::CheckLaws::record_passed))]
+fn first_refused(s: &[u8], from: usize) -> Result<(), Refused>
     requires { «from» ≤ max_end }
     ensures { result ≡ checked_from (count s.now) s.now 0 «from» }
 {
     let n = s.len() / 6;
     let mut place = from;
-    let mut i = 0;
-    while i < n {
+    for i in 0..n {
         let length = length_at(s, i);
-        let end = place + widened(length);
-        let no = record_refusal(kind_number_at(s, i), length, end);
-        if no != 0 {
-            return Checked::Refused(no, i);
+        let end = place + length as usize;
+        if let Some(refusal) = record_refusal(kind_number_at(s, i), length, end) {
+            return Err(Refused { refusal, place: i });
         }
         place = end;
-        i += 1;
     }
-    Checked::Passed
+    Ok(())
 }
 
-pub fn check(s: &[u8], base: u32) -> Checked
+pub fn check(s: &[u8], base: u32) -> Result<(), Refused>
     ensures { result ≡ checked s.now base }
 {
     let n = s.len() / 6;
     if s.len() % 6 != 0 {
-        return Checked::Refused(1, n);
+        return Err(Refused {
+            refusal: Refusal::PartialRecord,
+            place: n,
+        });
     }
     if MAX_RECORDS < n {
-        return Checked::Refused(2, MAX_RECORDS);
+        return Err(Refused {
+            refusal: Refusal::Records,
+            place: MAX_RECORDS,
+        });
     }
-    let from = widened(base);
+    let from = base as usize;
     if MAX_END < from {
-        return Checked::Refused(5, 0);
+        return Err(Refused {
+            refusal: Refusal::Bytes,
+            place: 0,
+        });
     }
     if all_pass(s, from) {
-        return Checked::Passed;
+        return Ok(());
     }
     first_refused(s, from)
 }

@@ -4,25 +4,17 @@ ghost use Rattle.choices.specs.Modes.{chosen_by, unknown_mode};
 
 use rules::answer::Answer;
 use rules::options::{Mode, Options};
+use token::refusal::Refusal;
 
-// What a mode's number stands for, if for anything.
-#[derive(Clone, Copy)]
-pub enum Chosen {
-    Known(Options),
-    Unknown,
-}
-
-// 0 is crate mode, 1 brace mode.
-pub fn choose(mode: u32) -> Chosen
+// What a mode's number stands for, if for anything: 0 is crate mode, 1 brace mode.
+pub fn choose(mode: u32) -> Option<Options>
     ensures { result ≡ chosen_by mode }
 {
-    if mode == 0 {
-        return Chosen::Known(Options { mode: Mode::Crate });
+    match mode {
+        0 => Some(Options { mode: Mode::Crate }),
+        1 => Some(Options { mode: Mode::Brace }),
+        _ => None,
     }
-    if mode == 1 {
-        return Chosen::Known(Options { mode: Mode::Brace });
-    }
-    Chosen::Unknown
 }
 
 // The answer to an unknown mode.
@@ -30,7 +22,7 @@ pub fn unknown_mode() -> Answer
     ensures { result ≡ unknown_mode }
 {
     Answer {
-        refusal: 15,
+        refusal: Refusal::Mode as u32,
         place: 0,
         events: 0,
         errors: 0,

@@ -12,11 +12,9 @@ pub fn in_document(kind: Kind) -> InDocument
     match kind {
         Kind::Dot => InDocument::Dot,
         Kind::Equals => InDocument::Equals,
-        Kind::Comma => InDocument::Stray,
+        Kind::Comma | Kind::LeftCurlyBracket | Kind::RightCurlyBracket => InDocument::Stray,
         Kind::LeftSquareBracket => InDocument::OpenSquare,
         Kind::RightSquareBracket => InDocument::CloseSquare,
-        Kind::LeftCurlyBracket => InDocument::Stray,
-        Kind::RightCurlyBracket => InDocument::Stray,
         Kind::Whitespace => InDocument::Whitespace,
         Kind::Comment => InDocument::Comment,
         Kind::Newline => InDocument::Newline,

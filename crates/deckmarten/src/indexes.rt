@@ -2,10 +2,11 @@
 ghost use Rattle.export_answers.specs.Exported.{plain};
 ghost use Rattle.export_indexes.specs.ExportedIndexes.{ExportsIndex, ExportsHeader};
 
-use export_answers::answer::{ExportedAnswer, taken};
-use export_indexes::indexes::{ExportedHeader, ExportedIndexed, exported_header, exported_indexed};
+use export_answers::answer::ExportedAnswer;
+use export_indexes::indexes::{ExportedHeader, ExportedIndexed};
 use index::index as index_of;
 use index_entries::reading::header_at;
+use rules::answer::Answer;
 
 #[unsafe(no_mangle)]
 pub extern "C" fn deckmarten_index(
@@ -15,15 +16,12 @@ pub extern "C" fn deckmarten_index(
 ) -> ExportedIndexed
     ensures { ExportsIndex (plain answer) events.now index.old index.new result }
 {
-    let a = taken(answer);
-    let r = index_of(a, events, index);
-    exported_indexed(r)
+    ExportedIndexed::from(index_of(Answer::from(answer), events, index))
 }
 
 #[unsafe(no_mangle)]
 pub extern "C" fn deckmarten_header_at(index: &[u8], at: usize) -> ExportedHeader
     ensures { ExportsHeader index.now at result }
 {
-    let h = header_at(index, at);
-    exported_header(h)
+    ExportedHeader::from(header_at(index, at))
 }

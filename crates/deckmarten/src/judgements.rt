@@ -6,18 +6,18 @@ ghost use Rattle.quiet.specs.Runs.{QuietAnswer};
 ghost use Rattle.export_answers.specs.Exported.{plain};
 ghost use Rattle.export_texts.specs.ExportedVerdicts.{ExportsVerdict};
 
-use export_answers::answer::{ExportedAnswer, taken};
-use export_texts::judgements::{ExportedVerdict, exported_verdict};
+use export_answers::answer::ExportedAnswer;
+use export_texts::judgements::ExportedVerdict;
 use quiet::run::is_quiet;
 use regular::is_regular;
+use rules::answer::Answer;
 use verdicts::verdict::fits;
 
 #[unsafe(no_mangle)]
 pub extern "C" fn deckmarten_is_quiet(answer: ExportedAnswer, events: &[u32]) -> bool
     ensures { (result ≡ true) ↔ QuietAnswer (plain answer) events.now }
 {
-    let a = taken(answer);
-    is_quiet(a, events)
+    is_quiet(Answer::from(answer), events)
 }
 
 #[unsafe(no_mangle)]
@@ -31,6 +31,5 @@ pub extern "C" fn deckmarten_is_regular(records: &[u8], base: u32) -> bool
 pub extern "C" fn deckmarten_fits(records: &[u8], base: u32, events: &mut [u32]) -> ExportedVerdict
     ensures { ExportsVerdict records.now base events.old events.new result }
 {
-    let v = fits(records, base, events);
-    exported_verdict(v)
+    ExportedVerdict::from(fits(records, base, events))
 }

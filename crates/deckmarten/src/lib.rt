@@ -12,9 +12,9 @@ ghost use Rattle.rules.specs.Entries.{document_entry, key_entry, simple_key_entr
 ghost use Rattle.struct_records.specs.Structs.{records_of};
 ghost use Rattle.export_answers.specs.Exported.{Exports};
 
-use choices::modes::{Chosen, choose, unknown_mode};
+use choices::modes::{choose, unknown_mode};
 use entries::entries::{parse_document, parse_key, parse_simple_key, parse_value};
-use export_answers::answer::{ExportedAnswer, exported};
+use export_answers::answer::ExportedAnswer;
 use export_answers::options::ExportedOptions;
 use struct_records::Token;
 use structs::parse_tokens;
@@ -29,10 +29,9 @@ pub extern "C" fn deckmarten_parse_document(
 ) -> ExportedAnswer
     ensures { Exports options.mode document_entry s.now base events.old errors.old events.new errors.new result }
 {
-    let choice = choose(options.mode);
-    match choice {
-        Chosen::Known(known) => exported(parse_document(s, base, known, events, errors)),
-        Chosen::Unknown => exported(unknown_mode()),
+    match choose(options.mode) {
+        Some(known) => ExportedAnswer::from(parse_document(s, base, known, events, errors)),
+        None => ExportedAnswer::from(unknown_mode()),
     }
 }
 
@@ -46,10 +45,9 @@ pub extern "C" fn deckmarten_parse_key(
 ) -> ExportedAnswer
     ensures { Exports options.mode key_entry s.now base events.old errors.old events.new errors.new result }
 {
-    let choice = choose(options.mode);
-    match choice {
-        Chosen::Known(known) => exported(parse_key(s, base, known, events, errors)),
-        Chosen::Unknown => exported(unknown_mode()),
+    match choose(options.mode) {
+        Some(known) => ExportedAnswer::from(parse_key(s, base, known, events, errors)),
+        None => ExportedAnswer::from(unknown_mode()),
     }
 }
 
@@ -63,10 +61,9 @@ pub extern "C" fn deckmarten_parse_simple_key(
 ) -> ExportedAnswer
     ensures { Exports options.mode simple_key_entry s.now base events.old errors.old events.new errors.new result }
 {
-    let choice = choose(options.mode);
-    match choice {
-        Chosen::Known(known) => exported(parse_simple_key(s, base, known, events, errors)),
-        Chosen::Unknown => exported(unknown_mode()),
+    match choose(options.mode) {
+        Some(known) => ExportedAnswer::from(parse_simple_key(s, base, known, events, errors)),
+        None => ExportedAnswer::from(unknown_mode()),
     }
 }
 
@@ -80,10 +77,9 @@ pub extern "C" fn deckmarten_parse_value(
 ) -> ExportedAnswer
     ensures { Exports options.mode value_entry s.now base events.old errors.old events.new errors.new result }
 {
-    let choice = choose(options.mode);
-    match choice {
-        Chosen::Known(known) => exported(parse_value(s, base, known, events, errors)),
-        Chosen::Unknown => exported(unknown_mode()),
+    match choose(options.mode) {
+        Some(known) => ExportedAnswer::from(parse_value(s, base, known, events, errors)),
+        None => ExportedAnswer::from(unknown_mode()),
     }
 }
 
@@ -98,6 +94,5 @@ pub extern "C" fn deckmarten_parse_tokens_in(
 ) -> ExportedAnswer
     ensures { Exports mode document_entry (records_of tokens.now) base events.old errors.old events.new errors.new result }
 {
-    let r = parse_tokens(mode, tokens, base, events, errors);
-    exported(r)
+    ExportedAnswer::from(parse_tokens(mode, tokens, base, events, errors))
 }

@@ -2,9 +2,10 @@
 ghost use Rattle.export_answers.specs.Exported.{plain};
 ghost use Rattle.export_listings.specs.ExportedMistakes.{ExportsListing, ExportsCheck};
 
-use export_answers::answer::{ExportedAnswer, taken};
-use export_listings::listings::{ExportedCheck, ExportedListed, exported_check, exported_listed};
+use export_answers::answer::ExportedAnswer;
+use export_listings::listings::{ExportedCheck, ExportedListed};
 use mistakes::mistakes as mistakes_of_run;
+use rules::answer::Answer;
 use text_mistakes::check_text;
 
 #[unsafe(no_mangle)]
@@ -18,9 +19,15 @@ pub extern "C" fn deckmarten_mistakes(
 ) -> ExportedListed
     ensures { ExportsListing records.now base (plain answer) events.now errors.now mistakes.old mistakes.new result }
 {
-    let a = taken(answer);
-    let r = mistakes_of_run(records, base, a, events, errors, mistakes);
-    exported_listed(r)
+    let r = mistakes_of_run(
+        records,
+        base,
+        Answer::from(answer),
+        events,
+        errors,
+        mistakes,
+    );
+    ExportedListed::from(r)
 }
 
 #[unsafe(no_mangle)]
@@ -33,6 +40,5 @@ pub extern "C" fn deckmarten_check_text(
 ) -> ExportedCheck
     ensures { ExportsCheck text.now records.old events.old errors.old mistakes.old records.new events.new errors.new mistakes.new result }
 {
-    let r = check_text(text, records, events, errors, mistakes);
-    exported_check(r)
+    ExportedCheck::from(check_text(text, records, events, errors, mistakes))
 }

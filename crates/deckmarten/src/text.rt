@@ -1,12 +1,10 @@
 // Text in, for programs in C and Rust: the lexer by itself, the joined entry, and the yes of a text.
 ghost use Rattle.export_texts.specs.ExportedTexts.{ExportsLexed, ExportsText, ExportsTextVerdict};
 
-use choices::modes::{Chosen, choose};
+use choices::modes::choose;
 use export_answers::options::ExportedOptions;
-use export_texts::judgements::{ExportedVerdict, exported_verdict};
-use export_texts::text::{
-    ExportedLexed, ExportedTextAnswer, exported_lexed, exported_text, exported_unknown,
-};
+use export_texts::judgements::ExportedVerdict;
+use export_texts::text::{ExportedLexed, ExportedTextAnswer, exported_unknown};
 use lex::lex;
 use texts::entry::parse_text;
 use texts::verdict::text_fits;
@@ -15,8 +13,7 @@ use texts::verdict::text_fits;
 pub extern "C" fn deckmarten_lex(text: &[u8], records: &mut [u8]) -> ExportedLexed
     ensures { ExportsLexed text.now records.old records.new result }
 {
-    let r = lex(text, records);
-    exported_lexed(r)
+    ExportedLexed::from(lex(text, records))
 }
 
 #[unsafe(no_mangle)]
@@ -29,10 +26,9 @@ pub extern "C" fn deckmarten_parse_text(
 ) -> ExportedTextAnswer
     ensures { ExportsText options.mode text.now records.old events.old errors.old records.new events.new errors.new result }
 {
-    let choice = choose(options.mode);
-    match choice {
-        Chosen::Known(known) => exported_text(parse_text(text, known, records, events, errors)),
-        Chosen::Unknown => exported_unknown(),
+    match choose(options.mode) {
+        Some(known) => ExportedTextAnswer::from(parse_text(text, known, records, events, errors)),
+        None => exported_unknown(),
     }
 }
 
@@ -44,6 +40,5 @@ pub extern "C" fn deckmarten_text_fits(
 ) -> ExportedVerdict
     ensures { ExportsTextVerdict text.now records.old events.old records.new events.new result }
 {
-    let v = text_fits(text, records, events);
-    exported_verdict(v)
+    ExportedVerdict::from(text_fits(text, records, events))
 }

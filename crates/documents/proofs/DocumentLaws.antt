@@ -1,8 +1,8 @@
 -- Laws of the document loop: a turn is a walk, after which the loop goes on unless it is over. Assumes nothing.
 use mathlib.Core.Path.{◌≡◌, refl, ap, sym, subst, ◌∙◌}
-use mathlib.Core.Bool.{true, false}
+use mathlib.Core.Bool.{true, false, false≢true}
 use mathlib.Core.List.{List, [], ◌∷◌}
-use Prim.Native.Nat.{ℕ, ◌-◌}
+use Prim.Native.Nat.{ℕ, ◌+◌, ◌-◌, ◌≤◌}
 use native.Mathlib.Omega.{arith}
 use denote.Enum.Declared.{tag_of}
 use types.Run.{OneOf, miss}
@@ -22,10 +22,12 @@ use Rattle.output.specs.Walks.{End, run}
 use Rattle.output.specs.WalkLaws.{rule_at, then_on}
 use Rattle.output.specs.TurnLaws.{Turns, onward, turn_same, fewer_left}
 use Rattle.keyless_turns.specs.Keyless.{keyless}
-use Rattle.nest.specs.Nested.{out_of, Nested}
+use Rattle.nest.specs.Nested.{NestWalk, walk_of, is_stopped, out_of, Nested}
 use Rattle.nest.specs.NestedLaws.{out_on, nested_stop}
-use Rattle.documents.specs.declared.document.DocumentTurn.{DocumentTurn}
-use Rattle.documents.specs.Documents.{Stepped}
+use Rattle.std.specs.Prelude.{Ok, Err}
+use Rattle.std.specs.declared.ops.ControlFlow.TheVariants.{Continue, Break}
+use Rattle.output.specs.declared.emitting.Walk.{Walk}
+use Rattle.documents.specs.Documents.{DocumentTurn, walk, over, turn_of, Stepped}
 
 -- a turn at the token that was read
 pub document_at : (s : List ℕ) (c d : Cursor) (t : Token) → Took s c t d → (x y : InDocument) → x ≡ in_document t.kind → x ≡ y → (levels : ℕ) (loop : Unit {0} → List Tok → Out)
@@ -52,9 +54,14 @@ pub document_keyless : (s : List ℕ) (c d : Cursor) (t : Token) → Took s c t 
     → document_turn levels loop tt (tokens_at s c) ≡ (keyless x t.start t.end (tokens_at s d) then loop tt)
 document_keyless s c d t k x p w levels loop = document_at s c d t k x x p refl levels loop ∙ keyless_step x levels (loop tt) t.start t.end (tokens_at s d) w
 
--- an answer that is made by a function
-pub stepped_as : {s : List ℕ} {rule : (Unit {0} → List Tok → Out) → Out} {c : Cursor} {o : Bufs} {a b : List ℕ} {d d' : DocumentTurn} → d ≡ d' → Stepped s rule c o a b d' → Stepped s rule c o a b d
-stepped_as {s} {rule} {c} {o} {a} {b} e x = subst (λ (z : DocumentTurn). Stepped s rule c o a b z) (sym e) x
+-- a turn that goes on, unless a level was refused in it
+module _ {s : List ℕ} {rule : (Unit {0} → List Tok → Out) → Out} {c : Cursor} {o : Bufs} {a b : List ℕ} (g : Out) (goes_on : (loop : Unit {0} → List Tok → Out) → rule loop ≡ (g then loop tt)) where
+  stepped : (v : NestWalk) → Nested s g c o a b v → c.at + 1 ≤ (walk_of v).cur.at → Stepped s rule c o a b (turn_of v)
+  stepped (Ok w) x f = record { g = g; walked = x; goes_on = λ q. goes_on; ends = λ q. absurd (false≢true q); further = λ q. f }
+  stepped (Err e) x f = record { g = g; walked = x; goes_on = λ q. goes_on; ends = λ q. absurd (false≢true q); further = λ q. f }
+
+  pub stepped_on : (v : NestWalk) {d : DocumentTurn} → d ≡ turn_of v → Nested s g c o a b v → c.at + 1 ≤ (walk_of v).cur.at → Stepped s rule c o a b d
+  stepped_on v e x f = subst (λ (z : DocumentTurn). Stepped s rule c o a b z) (sym e) (stepped v x f)
 
 module _ (levels : ℕ) {s : List ℕ} {start : Out} {o o₀ : Bufs} {cur cur₀ : Cursor} (inv : Turns s (λ k. turns (document_turn levels) k tt (tokens_at s cur)) start o o₀ cur cur₀)
     {a b : List ℕ} (d : DocumentTurn) (t : Stepped s (λ loop. document_turn levels loop tt (tokens_at s cur)) cur o a b d) where
@@ -68,38 +75,54 @@ module _ (levels : ℕ) {s : List ℕ} {start : Out} {o o₀ : Bufs} {cur cur₀
   same = turn_same (document_turn levels) (λ f g w. refl) tt inv
 
   -- what was walked is the rest of the loop
-  ends_by : (r : Out) → document_turn levels Loop tt (tokens_at s cur) ≡ r → Nested s r cur o a b d.walk → Nested s start cur₀ o₀ a b d.walk
+  ends_by : (r : Out) → document_turn levels Loop tt (tokens_at s cur) ≡ r → Nested s r cur o a b (walk d) → Nested s start cur₀ o₀ a b (walk d)
   unfolding run
   ends_by r e y =
       let q : run All r o ≡ run All start o₀ = ap (λ (x : Out). run All x o) (sym e) ∙ same in
       record {
-        wrote = λ base p. subst (λ (u : ℕ). out_of d.walk.stopped s a b d.walk.n d.walk.cur ≡ pour (all_tokens s u) start.items o₀) p (y.wrote cur₀.base inv.base ∙ ap (λ (x : End). x.out) q);
+        wrote = λ base p. subst (λ (u : ℕ). out_of (is_stopped (walk d)) s a b (walk_of (walk d)).n (walk_of (walk d)).cur ≡ pour (all_tokens s u) start.items o₀) p (y.wrote cur₀.base inv.base ∙ ap (λ (x : End). x.out) q);
         rest = λ f. y.rest f ∙ ap (λ (x : End). x.rest) q;
         good = y.good;
         on = omega (arith, y.on, inv.on);
         base = y.base ∙ inv.base;
       }
 
-  pub step_over : d.over ≡ true → Nested s start cur₀ o₀ a b d.walk
-  step_over e = ends_by t.g (t.ends e Loop) t.walk
+  step_over : over d ≡ true → Nested s start cur₀ o₀ a b (walk d)
+  step_over e = ends_by t.g (t.ends e Loop) t.walked
 
-  pub step_stop : d.over ≡ false → d.walk.stopped ≡ true → Nested s start cur₀ o₀ a b d.walk
-  step_stop e f = ends_by (t.g then Loop tt) (t.goes_on e Loop) (nested_stop (Loop tt) t.walk f)
+  step_stop : over d ≡ false → is_stopped (walk d) ≡ true → Nested s start cur₀ o₀ a b (walk d)
+  step_stop e f = ends_by (t.g then Loop tt) (t.goes_on e Loop) (nested_stop (Loop tt) t.walked f)
 
-  pub step_again : d.over ≡ false → d.walk.stopped ≡ false → Turns s (λ k. turns (document_turn levels) k tt (tokens_at s d.walk.cur)) start (bufs a b d.walk.n) o₀ d.walk.cur cur₀
+  -- a turn that breaks off is the end, over or refused; one that does not, goes on
+  ended : (v : NestWalk) → d ≡ Break v → Nested s start cur₀ o₀ a b (walk d)
+  ended (Ok w) e = step_over (ap over e)
+  ended (Err x) e = step_stop (ap over e) (ap (λ (z : DocumentTurn). is_stopped (walk z)) e)
+
+  pub step_break : (v : NestWalk) → d ≡ Break v → Nested s start cur₀ o₀ a b v
+  step_break v e = subst (λ (z : DocumentTurn). Nested s start cur₀ o₀ a b (walk z)) e (ended v e)
+
+  step_again : over d ≡ false → is_stopped (walk d) ≡ false → Turns s (λ k. turns (document_turn levels) k tt (tokens_at s (walk_of (walk d)).cur)) start (bufs a b (walk_of (walk d)).n) o₀ (walk_of (walk d)).cur cur₀
   unfolding run
   step_again e f =
-      let y = t.walk in
-      let z : bufs a b d.walk.n ≡ pour All t.g.items o = out_on s a b d.walk.n d.walk.cur _ d.walk.stopped f (y.wrote cur₀.base inv.base) in
-      let p : run All (t.g then Loop tt) o ≡ run All (Loop tt (tokens_at s d.walk.cur)) (bufs a b d.walk.n) = then_on All t.g (Loop tt) o s a b (record { cur = d.walk.cur; n = d.walk.n }) (λ i. record { out = z i; rest = y.rest f i }) in
+      let y = t.walked in
+      let z : bufs a b (walk_of (walk d)).n ≡ pour All t.g.items o = out_on s a b (walk_of (walk d)).n (walk_of (walk d)).cur _ (is_stopped (walk d)) f (y.wrote cur₀.base inv.base) in
+      let p : run All (t.g then Loop tt) o ≡ run All (Loop tt (tokens_at s (walk_of (walk d)).cur)) (bufs a b (walk_of (walk d)).n) = then_on All t.g (Loop tt) o s a b (record { cur = (walk_of (walk d)).cur; n = (walk_of (walk d)).n }) (λ i. record { out = z i; rest = y.rest f i }) in
       record {
         fuel = inv.fuel - 1;
-        enough = fewer_left (document_turn levels) (λ f g w. refl) tt inv d.walk.cur (t.further e) y.good;
+        enough = fewer_left (document_turn levels) (λ f g w. refl) tt inv (walk_of (walk d)).cur (t.further e) y.good;
         same = sym p ∙ ap (λ (x : Out). run All x o) (sym (t.goes_on e Loop)) ∙ same;
         good = y.good;
         on = omega (arith, y.on, inv.on);
         base = y.base ∙ inv.base;
       }
+
+  pub step_continue : (w : Walk) → d ≡ Continue w → Turns s (λ k. turns (document_turn levels) k tt (tokens_at s w.cur)) start (bufs a b w.n) o₀ w.cur cur₀
+  step_continue w e =
+      subst (λ (z : DocumentTurn). Turns s (λ k. turns (document_turn levels) k tt (tokens_at s (walk_of (walk z)).cur)) start (bufs a b (walk_of (walk z)).n) o₀ (walk_of (walk z)).cur cur₀) e
+      (step_again (ap over e) (ap (λ (z : DocumentTurn). is_stopped (walk z)) e))
+
+  pub step_further : (w : Walk) → d ≡ Continue w → cur.at + 1 ≤ w.cur.at
+  step_further w e = subst (λ (z : DocumentTurn). cur.at + 1 ≤ (walk_of (walk z)).cur.at) e (t.further (ap over e))
 
 -- a kind that the loop takes for a dot or `=` is one
 abbrev KindIs : InDocument → Kind → Type 0

@@ -21,8 +21,7 @@ use Rattle.rules.specs.Document.{document_step, document_turn, expression, on_ex
 use Rattle.output.specs.declared.emitting.Counts.{Counts}
 use Rattle.output.specs.Pour.{Bufs, bufs, put}
 use Rattle.output.specs.MeetLaws.{met_at}
-use Rattle.nest.specs.declared.nest.NestWalk.{NestWalk}
-use Rattle.nest.specs.Nested.{Nested}
+use Rattle.nest.specs.Nested.{NestWalk, walk_of, Nested}
 use Rattle.nest.specs.NestedLaws.{nested_item, nested_as, nested_past}
 use Rattle.expressions.specs.Expressed.{Expressed}
 
@@ -33,7 +32,7 @@ pub record Begun (levels : ℕ) (s : List ℕ) (c : Cursor) (o : Bufs) (d : Curs
   pub turn : (loop : Unit {0} → List Tok → Out) → document_turn levels loop tt (tokens_at s c) ≡ (g then loop tt)
   pub good : Good s d
   pub walk : (a b : List ℕ) (v : NestWalk) → Expressed s (expression m levels (tokens_at s d)) d o' a b v → Nested s g c o a b v
-  pub further : (a b : List ℕ) (v : NestWalk) → Expressed s (expression m levels (tokens_at s d)) d o' a b v → c.at + 1 ≤ v.cur.at
+  pub further : (a b : List ℕ) (v : NestWalk) → Expressed s (expression m levels (tokens_at s d)) d o' a b v → c.at + 1 ≤ (walk_of v).cur.at
 
 seen_as : {s : List ℕ} {c d : Cursor} {t : Token} → Took s c t d → (j : Kind) → t.kind ≡ j → tokens_at s c ≡ tok j t.start t.end ∷ tokens_at s d
 seen_as {s} {d = d} {t} k j q = k.seen ∙ ap (λ (i : Kind). tok i t.start t.end ∷ tokens_at s d) q

@@ -1,43 +1,34 @@
 // The document loop.
-ghost use Rattle.std.specs.Prelude.{◌≡◌, true, false};
+ghost use Rattle.std.specs.Prelude.{◌≡◌};
 ghost use Rattle.token.specs.Tokens.{Good, tokens_at};
 ghost use Rattle.rules.specs.Document.{document, document_turn};
 ghost use Rattle.output.specs.Pour.{bufs};
 ghost use Rattle.nest.specs.Nested.{Nested};
-ghost use Rattle.documents.specs.Documents.{Stepped};
+ghost use Rattle.documents.specs.Documents.{Stepped, turn_of};
 
 use classes::document::in_document;
 use expression_keys::{on_expression_dot, on_expression_key};
 use expressions::expression::key_and_value;
 use keyless_turns::keyless_turn;
-use nest::nest::{NestWalk, unstopped};
+use nest::nest::TooDeep;
 use output::emitting::{Counts, Walk, empty_key};
 use output::message::KEY_WITH_NO_VALUE;
 use rules::document::InDocument;
 use rules::options::Settings;
-use token::cursor::{Cursor, Step};
+use std::ops::ControlFlow;
+use token::cursor::Cursor;
 
-// Where a turn of the document loop ended; `over` says that it was the last.
-#[derive(Clone, Copy)]
-pub struct DocumentTurn {
-    pub walk: NestWalk,
-    pub over: bool,
-}
+// Where a turn of the document loop ended; the last turn breaks off, and so does one in which a level was refused.
+type DocumentTurn = ControlFlow<Result<Walk, TooDeep>, Walk>;
 
-// A turn that was not refused, and is not the last.
-fn going_on(w: Walk) -> DocumentTurn
-    ensures { result ≡ record { walk = record { cur = w.cur; n = w.n; stopped = false }; over = false } }
+// A turn that is not the last, unless a level was refused in it.
+fn turn_of(walk: Result<Walk, TooDeep>) -> DocumentTurn
+    ensures { result ≡ turn_of walk }
 {
-    let walk = unstopped(w);
-    DocumentTurn { walk, over: false }
-}
-
-// The last turn.
-fn ended(w: Walk) -> DocumentTurn
-    ensures { result ≡ record { walk = record { cur = w.cur; n = w.n; stopped = false }; over = true } }
-{
-    let walk = unstopped(w);
-    DocumentTurn { walk, over: true }
+    match walk {
+        Ok(w) => ControlFlow::Continue(w),
+        Err(_) => ControlFlow::Break(walk),
+    }
 }
 
 // One expression, or what stands where one should. The arms for the start of a key emit its first part, and what follows it is walked
@@ -53,9 +44,8 @@ fn document_turn(
     requires { Good s.now c }
     ensures { Stepped s.now (λ loop. document_turn settings.levels loop tt (tokens_at s.now c)) c (bufs events.old errors.old m) events.new errors.new result }
 {
-    let step = c.next(s);
-    let Step::Got(t, past) = step else {
-        return ended(Walk { cur: c, n: m });
+    let Some((t, past)) = c.next(s) else {
+        return ControlFlow::Break(Ok(Walk { cur: c, n: m }));
     };
     let k = t.kind;
     let x = in_document(k);
@@ -81,15 +71,15 @@ fn document_turn(
             message = start.message;
         }
         InDocument::Eof => {
-            return ended(Walk { cur: past, n: m });
+            return ControlFlow::Break(Ok(Walk { cur: past, n: m }));
         }
         _ => {
             let w = keyless_turn(s, x, t, past, m, events, errors);
-            return going_on(w);
+            return ControlFlow::Continue(w);
         }
     }
     let walk = key_and_value(s, from, n, message, settings, events, errors);
-    DocumentTurn { walk, over: false }
+    turn_of(walk)
 }
 
 pub fn document(
@@ -99,24 +89,19 @@ pub fn document(
     settings: Settings,
     events: &mut [u32],
     errors: &mut [u32],
-) -> NestWalk
+) -> Result<Walk, TooDeep>
     requires { Good s.now c }
     ensures { Nested s.now (document settings.levels (tokens_at s.now c)) c (bufs events.old errors.old m) events.new errors.new result }
 {
     let mut cur = c;
     let mut n = m;
     loop {
-        let a = document_turn(s, cur, n, settings, events, errors);
-        let v = a.walk;
-        let over = a.over;
-        if over {
-            return v;
+        match document_turn(s, cur, n, settings, events, errors) {
+            ControlFlow::Break(end) => return end,
+            ControlFlow::Continue(w) => {
+                cur = w.cur;
+                n = w.n;
+            }
         }
-        let stopped = v.stopped;
-        if stopped {
-            return v;
-        }
-        cur = v.cur;
-        n = v.n;
     }
 }

@@ -11,7 +11,7 @@ use output::emitting::{Counts, emit, empty_key};
 use output::expected::A_KEY;
 use rules::event::Event;
 use rules::keys::InKey;
-use token::cursor::{Cursor, Step};
+use token::cursor::Cursor;
 
 pub fn key(
     s: &[u8],
@@ -26,19 +26,8 @@ pub fn key(
 {
     let mut cur = c;
     let mut n = m;
-    loop {
-        let step = cur.next(s);
-        let Step::Got(t, past) = step else {
-            n = nothing_left(s, cur, n, message, A_KEY, errors);
-            return KeyWalk {
-                cur,
-                n,
-                valid: false,
-            };
-        };
-        let k = t.kind;
-        let x = in_key(k);
-        match x {
+    while let Some((t, past)) = cur.next(s) {
+        match in_key(t.kind) {
             InKey::Other => {
                 n = empty_key(events, n, t.start);
                 return KeyWalk {
@@ -61,5 +50,11 @@ pub fn key(
                 return opt_dot_keys(s, past, n, events, errors);
             }
         }
+    }
+    n = nothing_left(s, cur, n, message, A_KEY, errors);
+    KeyWalk {
+        cur,
+        n,
+        valid: false,
     }
 }

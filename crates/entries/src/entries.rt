@@ -1,14 +1,12 @@
 // The four entries: record bytes, a base and two lent buffers in; the answer out, and the buffers filled.
 ghost use Rattle.std.specs.Prelude.{◌≡◌};
-ghost use Rattle.token.specs.declared.checked.Checked.{Checked};
 ghost use Rattle.token.specs.Check.{checked};
 ghost use Rattle.rules.specs.Entries.{document_entry, key_entry, simple_key_entry, value_entry};
 ghost use Rattle.entry_steps.specs.Answers.{Answers};
 
 use documents::document::document;
 use dotted_keys::keys::key;
-use entry_steps::steps::{Begun, answered, begin};
-use nest::nest::unstopped;
+use entry_steps::steps::{answered, begin};
 use output::emitting::{Counts, Walk};
 use output::message::INVALID_KEY;
 use rules::answer::Answer;
@@ -28,7 +26,7 @@ pub fn read_document(
     events: &mut [u32],
     errors: &mut [u32],
 ) -> Answer
-    requires { checked s.now base ≡ Checked.Passed }
+    requires { checked s.now base ≡ Ok tt }
     ensures { Answers options document_entry s.now base events.old errors.old events.new errors.new result }
 {
     let c = Cursor::new(base);
@@ -53,10 +51,9 @@ pub fn parse_document(
 ) -> Answer
     ensures { Answers options document_entry s.now base events.old errors.old events.new errors.new result }
 {
-    let begun = begin(s, base);
-    match begun {
-        Begun::Refused(answer) => answer,
-        Begun::Start(_, _) => read_document(s, base, options, events, errors),
+    match begin(s, base) {
+        Err(answer) => answer,
+        Ok(_) => read_document(s, base, options, events, errors),
     }
 }
 
@@ -69,14 +66,13 @@ pub fn parse_key(
 ) -> Answer
     ensures { Answers options key_entry s.now base events.old errors.old events.new errors.new result }
 {
-    let begun = begin(s, base);
-    match begun {
-        Begun::Refused(answer) => answer,
-        Begun::Start(c, m) => {
+    match begin(s, base) {
+        Err(answer) => answer,
+        Ok((c, m)) => {
             let k = key(s, c, m, INVALID_KEY, events, errors);
             let cur = k.cur;
             let n = k.n;
-            answered(s, options, unstopped(Walk { cur, n }), events, errors)
+            answered(s, options, Ok(Walk { cur, n }), events, errors)
         }
     }
 }
@@ -90,12 +86,11 @@ pub fn parse_simple_key(
 ) -> Answer
     ensures { Answers options simple_key_entry s.now base events.old errors.old events.new errors.new result }
 {
-    let begun = begin(s, base);
-    match begun {
-        Begun::Refused(answer) => answer,
-        Begun::Start(c, m) => {
+    match begin(s, base) {
+        Err(answer) => answer,
+        Ok((c, m)) => {
             let w = simple_key(s, c, m, INVALID_KEY, events, errors);
-            answered(s, options, unstopped(w), events, errors)
+            answered(s, options, Ok(w), events, errors)
         }
     }
 }
@@ -109,10 +104,9 @@ pub fn parse_value(
 ) -> Answer
     ensures { Answers options value_entry s.now base events.old errors.old events.new errors.new result }
 {
-    let begun = begin(s, base);
-    match begun {
-        Begun::Refused(answer) => answer,
-        Begun::Start(c, m) => {
+    match begin(s, base) {
+        Err(answer) => answer,
+        Ok((c, m)) => {
             let settings = Settings {
                 levels: MAX_DEPTH,
                 options,

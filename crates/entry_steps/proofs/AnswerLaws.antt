@@ -6,12 +6,14 @@ use Prim.Native.Nat.{ℕ, ◌-◌, ◌/◌, ◌≤◌}
 use native.Mathlib.Omega.{arith}
 use lib.ListN.{length}
 use lib.Dec.{ltb}
-use Rattle.token.specs.declared.checked.Checked.{Checked}
+use Rattle.std.specs.Prelude.{Ok, Err}
+use Rattle.token.specs.declared.checked.Refused.{Refused}
+use Rattle.token.specs.Refusals.{refusal_number}
 use Rattle.token.specs.declared.cursor.Cursor.{Cursor}
 use Rattle.token.specs.Limits.{max_records}
 use Rattle.token.specs.Records.{count}
 use Rattle.token.specs.Tokens.{Tok, all_tokens}
-use Rattle.token.specs.Check.{checked}
+use Rattle.token.specs.Check.{checked, Checked}
 use Rattle.token.specs.CheckLaws.{checked_passes}
 use Rattle.token.specs.CursorLaws.{all_length}
 use Rattle.rules.specs.Out.{Item, Out}
@@ -76,7 +78,7 @@ module _ (mode : Mode) (all : List Tok) (few : length all ≤ max_records) (is :
   walked_refused a b n left e = walked_from (refused a b n left) e
 
 -- an entry on a list that the check let through
-module _ (options : Options) (entry : Entry) (s : List ℕ) (base : ℕ) (evs ers : List ℕ) (p : checked s base ≡ Checked.Passed) where
+module _ (options : Options) (entry : Entry) (s : List ℕ) (base : ℕ) (evs ers : List ℕ) (p : checked s base ≡ Ok tt) where
   few : length (all_tokens s base) ≤ max_records
   few = omega (arith, all_length s base, (checked_passes s base p).few)
 
@@ -98,10 +100,10 @@ module _ (options : Options) (entry : Entry) (s : List ℕ) (base : ℕ) (evs er
       ∙ ap (λ (m : ℕ). refused_outcome (m - left) a (numbered options.mode (all_tokens s base) n.errors b) n) (all_length s base)
 
 -- an entry on a list that the check refused
-pub outcome_unread : (options : Options) (entry : Entry) (s : List ℕ) (base : ℕ) (evs ers : List ℕ) (r place : ℕ) → checked s base ≡ Checked.Refused r place
-    → outcome options entry s base evs ers ≡ record { answer = record { refusal = r; place = place; events = 0; errors = 0 }; events = evs; errors = ers }
+pub outcome_unread : (options : Options) (entry : Entry) (s : List ℕ) (base : ℕ) (evs ers : List ℕ) (r : Refused) → checked s base ≡ Err r
+    → outcome options entry s base evs ers ≡ record { answer = record { refusal = refusal_number r.refusal; place = r.place; events = 0; errors = 0 }; events = evs; errors = ers }
 unfolding outcome
-outcome_unread options entry s base evs ers r place e = ap (λ (c : Checked). outcome_by c options entry s base evs ers) e
+outcome_unread options entry s base evs ers r e = ap (λ (c : Checked). outcome_by c options entry s base evs ers) e
 
 -- what a walk that went to its end left in the buffers
 pub goes_poured : {s : List ℕ} {r : Out} {c : Cursor} {o : Bufs} {a b : List ℕ} {w : Walk} (base : ℕ) → c.base ≡ base → Goes s r c o a b w → bufs a b w.n ≡ pour (all_tokens s base) r.items o

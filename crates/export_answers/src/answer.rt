@@ -15,25 +15,29 @@ pub struct ExportedAnswer {
 }
 
 // The C structure of an answer.
-pub fn exported(r: Answer) -> ExportedAnswer
-    ensures { plain result ≡ r }
-{
-    ExportedAnswer {
-        refusal: r.refusal,
-        place: r.place,
-        events: r.events,
-        errors: r.errors,
+impl From<Answer> for ExportedAnswer {
+    ghost from_gives = { λ r e. plain e ≡ r };
+
+    fn from(r: Answer) -> ExportedAnswer {
+        ExportedAnswer {
+            refusal: r.refusal,
+            place: r.place,
+            events: r.events,
+            errors: r.errors,
+        }
     }
 }
 
 // The answer that a C structure holds.
-pub fn taken(e: ExportedAnswer) -> Answer
-    ensures { result ≡ plain e }
-{
-    Answer {
-        refusal: e.refusal,
-        place: e.place,
-        events: e.events,
-        errors: e.errors,
+impl From<ExportedAnswer> for Answer {
+    ghost from_gives = { λ e r. r ≡ plain e };
+
+    fn from(e: ExportedAnswer) -> Answer {
+        Answer {
+            refusal: e.refusal,
+            place: e.place,
+            events: e.events,
+            errors: e.errors,
+        }
     }
 }

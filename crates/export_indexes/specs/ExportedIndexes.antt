@@ -19,7 +19,7 @@ ExportsIndex answer events index after r = Indexes answer events index after (pl
 
 -- the C structure of what stands at a position of index bytes
 abbrev pub header_structure : HeaderAt → ExportedHeader
-header_structure (HeaderAt.Entry place parts array events next) = record { found = 1; array = mark array; place = place; parts = parts; events = events; next = next }
+header_structure (HeaderAt.Entry h next) = record { found = 1; array = mark h.array; place = h.place; parts = h.parts; events = h.events; next = next }
 header_structure HeaderAt.End = record { found = 0; array = 0; place = 0; parts = 0; events = 0; next = 0 }
 header_structure HeaderAt.NoEntry = record { found = 2; array = 0; place = 0; parts = 0; events = 0; next = 0 }
 

@@ -1,13 +1,13 @@
 // Answers of the index of headers as C structures: what writing it gives, and what reading it finds.
 ghost use Rattle.std.specs.Prelude.{◌≡◌};
-ghost use Rattle.headers.specs.Headers.{mark};
 ghost use Rattle.export_answers.specs.Exported.{plain};
 ghost use Rattle.export_indexes.specs.ExportedIndexes.{plain_indexed, header_structure, ExportedIndexesDetermined};
 
-use export_answers::answer::{ExportedAnswer, taken};
+use export_answers::answer::ExportedAnswer;
 use index::Indexed;
 use index::theorems::indexes_are_determined;
 use index_entries::reading::HeaderAt;
+use rules::answer::Answer;
 
 // The refusal's number (0 if none), how many headers there are, and how many bytes their index has, or would have.
 #[repr(C)]
@@ -32,23 +32,16 @@ pub struct ExportedHeader {
 }
 
 // The C structure of the index's answer.
-pub fn exported_indexed(r: Indexed) -> ExportedIndexed
-    ensures { plain_indexed result ≡ r }
-{
-    ExportedIndexed {
-        refusal: r.refusal,
-        headers: r.headers,
-        bytes: r.bytes,
-    }
-}
+impl From<Indexed> for ExportedIndexed {
+    ghost from_gives = { λ r e. plain_indexed e ≡ r };
 
-fn array_mark(array: bool) -> u32
-    ensures { result ≡ mark array }
-{
-    if array {
-        return 1;
+    fn from(r: Indexed) -> ExportedIndexed {
+        ExportedIndexed {
+            refusal: r.refusal,
+            headers: r.headers,
+            bytes: r.bytes,
+        }
     }
-    0
 }
 
 // One without an entry.
@@ -66,23 +59,22 @@ fn no_header(found: u32) -> ExportedHeader
 }
 
 // The C structure of what stands at a position.
-pub fn exported_header(h: HeaderAt) -> ExportedHeader
-    ensures { result ≡ header_structure h }
-{
-    match h {
-        HeaderAt::Entry(place, parts, array, events, next) => {
-            let marked = array_mark(array);
-            ExportedHeader {
+impl From<HeaderAt> for ExportedHeader {
+    ghost from_gives = { λ h e. e ≡ header_structure h };
+
+    fn from(h: HeaderAt) -> ExportedHeader {
+        match h {
+            HeaderAt::Entry(header, next) => ExportedHeader {
                 found: 1,
-                array: marked,
-                place,
-                parts,
-                events,
+                array: u32::from(header.array),
+                place: header.place,
+                parts: header.parts,
+                events: header.events,
                 next,
-            }
+            },
+            HeaderAt::End => no_header(0),
+            HeaderAt::NoEntry => no_header(2),
         }
-        HeaderAt::End => no_header(0),
-        HeaderAt::NoEntry => no_header(2),
     }
 }
 
@@ -96,6 +88,5 @@ pub fn exported_indexes_are_determined(
 )
     ensures { ExportedIndexesDetermined (plain answer) events.now index.now at }
 {
-    let a = taken(answer);
-    indexes_are_determined(a, events, index)
+    indexes_are_determined(Answer::from(answer), events, index)
 }

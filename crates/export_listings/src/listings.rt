@@ -30,28 +30,32 @@ pub struct ExportedCheck {
 }
 
 // The C structure of the listing's answer.
-pub fn exported_listed(r: Listed) -> ExportedListed
-    ensures { plain_listed result ≡ r }
-{
-    ExportedListed {
-        refusal: r.refusal,
-        place: r.place,
-        mistakes: r.mistakes,
+impl From<Listed> for ExportedListed {
+    ghost from_gives = { λ r e. plain_listed e ≡ r };
+
+    fn from(r: Listed) -> ExportedListed {
+        ExportedListed {
+            refusal: r.refusal,
+            place: r.place,
+            mistakes: r.mistakes,
+        }
     }
 }
 
 // The C structure of the check's answer.
-pub fn exported_check(r: TextCheck) -> ExportedCheck
-    ensures { plain_check result ≡ r }
-{
-    ExportedCheck {
-        refusal: r.refusal,
-        place: r.place,
-        base: r.base,
-        records: r.records,
-        events: r.events,
-        errors: r.errors,
-        mistakes: r.mistakes,
+impl From<TextCheck> for ExportedCheck {
+    ghost from_gives = { λ r e. plain_check e ≡ r };
+
+    fn from(r: TextCheck) -> ExportedCheck {
+        ExportedCheck {
+            refusal: r.refusal,
+            place: r.place,
+            base: r.base,
+            records: r.records,
+            events: r.events,
+            errors: r.errors,
+            mistakes: r.mistakes,
+        }
     }
 }
 

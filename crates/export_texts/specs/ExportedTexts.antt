@@ -1,10 +1,10 @@
 -- What the exported functions over texts promise. Assumes nothing.
-use Rattle.std.specs.Prelude.{◌≡◌, List, ℕ}
+use Rattle.std.specs.Prelude.{◌≡◌, List, ℕ, Option, Some, None}
 use Rattle.lex.specs.declared.Lexed.{Lexed}
 use Rattle.lex.specs.Lexed.{lex_outcome}
 use Rattle.text_rules.specs.declared.answer.TextAnswer.{TextAnswer}
 use Rattle.text_rules.specs.TextOutcome.{TextOutcome, text_outcome}
-use Rattle.choices.specs.declared.modes.Chosen.{Chosen}
+use Rattle.rules.specs.declared.options.Options.{Options}
 use Rattle.choices.specs.Modes.{chosen_by}
 use Rattle.text_steps.specs.TextVerdicts.{JudgesText}
 use Rattle.export_texts.specs.declared.judgements.ExportedVerdict.{ExportedVerdict}
@@ -24,9 +24,9 @@ abbrev pub ExportsLexed : List ℕ → List ℕ → List ℕ → ExportedLexed �
 ExportsLexed text records after r = record { answer = plain_lexed r; buffer = after } ≡ lex_outcome text records
 
 -- what the joined entry does for what was chosen: an unknown mode is refused before all else, and nothing is written
-abbrev pub text_outcome_of : Chosen → List ℕ → List ℕ → List ℕ → List ℕ → TextOutcome
-text_outcome_of (Chosen.Known options) text records events errors = text_outcome options text records events errors
-text_outcome_of Chosen.Unknown text records events errors = record { answer = record { refusal = 15; place = 0; base = 0; records = 0; events = 0; errors = 0 }; records = records; events = events; errors = errors }
+abbrev pub text_outcome_of : Option Options → List ℕ → List ℕ → List ℕ → List ℕ → TextOutcome
+text_outcome_of (Some options) text records events errors = text_outcome options text records events errors
+text_outcome_of None text records events errors = record { answer = record { refusal = 15; place = 0; base = 0; records = 0; events = 0; errors = 0 }; records = records; events = events; errors = errors }
 
 -- the C structure r, with the three buffers after it, holds the answer of that definition for the mode's number
 abbrev pub ExportsText : ℕ → List ℕ → List ℕ → List ℕ → List ℕ → List ℕ → List ℕ → List ℕ → ExportedTextAnswer → Type 0

@@ -15,13 +15,15 @@ pub struct ExportedVerdict {
 }
 
 // The C structure of a verdict.
-pub fn exported_verdict(v: Verdict) -> ExportedVerdict
-    ensures { plain_verdict result ≡ v }
-{
-    ExportedVerdict {
-        fits: v.fits,
-        refusal: v.refusal,
-        place: v.place,
+impl From<Verdict> for ExportedVerdict {
+    ghost from_gives = { λ v e. plain_verdict e ≡ v };
+
+    fn from(v: Verdict) -> ExportedVerdict {
+        ExportedVerdict {
+            fits: v.fits,
+            refusal: v.refusal,
+            place: v.place,
+        }
     }
 }
 

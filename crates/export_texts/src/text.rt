@@ -5,6 +5,7 @@ ghost use Rattle.export_texts.specs.ExportedTexts.{plain_lexed, plain_text, Expo
 use lex::Lexed;
 use text_rules::answer::TextAnswer;
 use text_steps::theorems::text_verdicts_are_determined;
+use token::refusal::Refusal;
 
 // The refusal's number (0 if none) and its place; where the tokens start; how many records there are.
 #[repr(C)]
@@ -29,28 +30,32 @@ pub struct ExportedTextAnswer {
 }
 
 // The C structure of the lexer's answer.
-pub fn exported_lexed(r: Lexed) -> ExportedLexed
-    ensures { plain_lexed result ≡ r }
-{
-    ExportedLexed {
-        refusal: r.refusal,
-        place: r.place,
-        base: r.base,
-        records: r.records,
+impl From<Lexed> for ExportedLexed {
+    ghost from_gives = { λ r e. plain_lexed e ≡ r };
+
+    fn from(r: Lexed) -> ExportedLexed {
+        ExportedLexed {
+            refusal: r.refusal,
+            place: r.place,
+            base: r.base,
+            records: r.records,
+        }
     }
 }
 
 // The C structure of the joined entry's answer.
-pub fn exported_text(r: TextAnswer) -> ExportedTextAnswer
-    ensures { plain_text result ≡ r }
-{
-    ExportedTextAnswer {
-        refusal: r.refusal,
-        place: r.place,
-        base: r.base,
-        records: r.records,
-        events: r.events,
-        errors: r.errors,
+impl From<TextAnswer> for ExportedTextAnswer {
+    ghost from_gives = { λ r e. plain_text e ≡ r };
+
+    fn from(r: TextAnswer) -> ExportedTextAnswer {
+        ExportedTextAnswer {
+            refusal: r.refusal,
+            place: r.place,
+            base: r.base,
+            records: r.records,
+            events: r.events,
+            errors: r.errors,
+        }
     }
 }
 
@@ -59,7 +64,7 @@ pub fn exported_unknown() -> ExportedTextAnswer
     ensures { plain_text result ≡ record { refusal = 15; place = 0; base = 0; records = 0; events = 0; errors = 0 } }
 {
     ExportedTextAnswer {
-        refusal: 15,
+        refusal: Refusal::Mode as u32,
         place: 0,
         base: 0,
         records: 0,

@@ -9,7 +9,7 @@ use output::expected::{A_KEY, EQUALS, OPEN_SQUARE};
 use output::message::{INVALID_KEY_VALUE_PAIR, MISSING_TABLE_OPEN};
 use rules::event::Event;
 use skip_lines::skipping::ignore_to_newline;
-use token::cursor::{Cursor, Seen, Token};
+use token::cursor::{Cursor, Token};
 
 pub fn on_missing_expression_key(
     s: &[u8],
@@ -55,8 +55,7 @@ pub fn no_equals(
     requires { Good s.now c }
     ensures { Goes s.now (no_equals message (tokens_at s.now c)) c (bufs events.old errors.old m) events.new errors.new result }
 {
-    let seen = c.peek(s);
-    let Seen::Token(t) = seen else {
+    let Some(t) = c.peek(s) else {
         return Walk { cur: c, n: m };
     };
     let n = report(

@@ -1,4 +1,5 @@
 -- Laws of expressions: what comes before `=`. Assumes nothing.
+use Rattle.std.specs.Prelude.{Ok, Err}
 use mathlib.Core.Path.{◌≡◌, refl, ap, sym, subst, ◌∙◌}
 use mathlib.Core.Bool.{Bool, true, false, false≢true}
 use mathlib.Core.List.{List, [], ◌∷◌}
@@ -22,14 +23,9 @@ use Rattle.output.specs.Pour.{Bufs, bufs}
 use Rattle.output.specs.Walks.{Goes}
 use Rattle.output.specs.MeetLaws.{met_at}
 use Rattle.output.specs.WalkLaws.{by_rule, run_done, goes_by, goes_on_lem, goes_rest}
-use Rattle.nest.specs.declared.nest.NestWalk.{NestWalk}
-use Rattle.nest.specs.Nested.{Nested}
+use Rattle.nest.specs.Nested.{NestWalk, walk_of, is_stopped, Nested}
 use Rattle.key_dots.specs.DotLaws.{beyond_dot}
 use Rattle.key_dots.specs.SpaceLaws.{keys_from}
-
--- the answer of a walk that was refused, made of its fields
-pub nested_stopped : {s : List ℕ} {r : Out} {c : Cursor} {o : Bufs} {a b : List ℕ} {v : NestWalk} → v.stopped ≡ true → Nested s r c o a b v → Nested s r c o a b (record { cur = v.cur; n = v.n; stopped = true })
-nested_stopped {s} {r} {c} {o} {a} {b} {v} e x = subst (λ (y : Bool). Nested s r c o a b (record { cur = v.cur; n = v.n; stopped = y })) e x
 
 -- what is read before `=` is looked for: the rest of the key, and whitespace behind it
 pub record Before (s : List ℕ) (c : Cursor) (o : Bufs) (a b : List ℕ) (w : Walk) : Type 0 where

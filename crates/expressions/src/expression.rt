@@ -11,11 +11,11 @@ use expression_strays::strays::no_equals;
 use key_dots::dots::dot_keys;
 use key_spaces::opt_whitespace;
 use line_ends::line_end::usual_line_end;
-use nest::nest::{NestWalk, unstopped};
-use output::emitting::{Counts, emit};
+use nest::nest::TooDeep;
+use output::emitting::{Counts, Walk, emit};
 use rules::event::Event;
 use rules::options::Settings;
-use token::cursor::{Cursor, Step, Token};
+use token::cursor::{Cursor, Token};
 use token::kind::Kind;
 use values::value::usual_value;
 
@@ -28,7 +28,7 @@ fn on_expression_key_val_sep(
     settings: Settings,
     events: &mut [u32],
     errors: &mut [u32],
-) -> NestWalk
+) -> Result<Walk, TooDeep>
     requires { Good s.now c }
     ensures { Nested s.now (on_expression_key_val_sep settings.levels eq.start eq.end (tokens_at s.now c)) c (bufs events.old errors.old m) events.new errors.new result }
 {
@@ -36,19 +36,11 @@ fn on_expression_key_val_sep(
     let w = opt_whitespace(s, c, n, events, errors);
     let from = w.cur;
     let i = w.n;
-    let v = usual_value(s, from, i, settings, events, errors);
-    let stopped = v.stopped;
+    let v = usual_value(s, from, i, settings, events, errors)?;
     let behind = v.cur;
     let j = v.n;
-    if stopped {
-        return NestWalk {
-            cur: behind,
-            n: j,
-            stopped: true,
-        };
-    }
     let z = usual_line_end(s, behind, j, events, errors);
-    unstopped(z)
+    Ok(z)
 }
 
 // From behind the first part of a key on. Whitespace, then dots and the parts behind them, is what opt_dot_keys reads; usually `=` comes
@@ -61,17 +53,16 @@ pub fn key_and_value(
     settings: Settings,
     events: &mut [u32],
     errors: &mut [u32],
-) -> NestWalk
+) -> Result<Walk, TooDeep>
     requires { Good s.now c }
     ensures { Expressed s.now (expression message settings.levels (tokens_at s.now c)) c (bufs events.old errors.old m) events.new errors.new result }
 {
     let w = opt_whitespace(s, c, m, events, errors);
     let mut cur = w.cur;
     let mut n = w.n;
-    let seen = cur.next_token_if(s, Kind::Equals);
-    match seen {
-        Step::Got(_, _) => {}
-        Step::Done => {
+    match cur.next_token_if(s, Kind::Equals) {
+        Some(_) => {}
+        None => {
             let list = s;
             let from = cur;
             let sofar = n;
@@ -83,13 +74,12 @@ pub fn key_and_value(
             n = v.n;
         }
     }
-    let step = cur.next_token_if(s, Kind::Equals);
-    let Step::Got(eq, past) = step else {
+    let Some((eq, past)) = cur.next_token_if(s, Kind::Equals) else {
         let list = s;
         let from = cur;
         let sofar = n;
         let z = no_equals(list, from, sofar, message, events, errors);
-        return unstopped(z);
+        return Ok(z);
     };
     on_expression_key_val_sep(s, eq, past, n, settings, events, errors)
 }

@@ -10,7 +10,7 @@ use native.Mathlib.Omega.{arith}
 use lib.ListN.{length, drop}
 use lib.Dec.{ltb}
 use borrow.Author.Tests.{ltb-false}
-use Rattle.token.specs.declared.checked.Checked.{Checked}
+use Rattle.std.specs.Prelude.{Ok}
 use Rattle.token.specs.Spans.{span_after}
 use Rattle.token.specs.Tokens.{Tok, all_tokens}
 use Rattle.token.specs.Check.{checked}
@@ -51,7 +51,7 @@ module _ (options : Options) (s : List ℕ) (base : ℕ) (events errors : List �
   abbrev items : List Item
   items = (parse_document tokens).items
 
-  laid : checked s base ≡ Checked.Passed → Laid base tokens
+  laid : checked s base ≡ Ok tt → Laid base tokens
   laid p = passed_laid s base (checked_passes s base p)
 
   run_laid : QuietRun (document_run options s base events errors) → Laid base tokens
@@ -69,7 +69,7 @@ module _ (options : Options) (s : List ℕ) (base : ℕ) (events errors : List �
       ∙ events_back tokens items (drop (length (joined (events_of tokens items))) events)
 
   -- the refusal of a run that passed the check
-  refusal_passed : checked s base ≡ Checked.Passed
+  refusal_passed : checked s base ≡ Ok tt
       → (document_run options s base events errors).answer.refusal ≡ refusal_by (halt_of items) (ltb (length events / event_size) (length (events_of tokens items))) (ltb (length errors / error_size) (length (errors_of options.mode tokens items)))
   unfolding walked
   refusal_passed p = ap (λ (o : Outcome). o.answer.refusal) (passed_outcome options document_entry s base events errors p)
@@ -99,13 +99,13 @@ module _ (options : Options) (s : List ℕ) (base : ℕ) (events errors : List �
         (λ q. (max_depth, e.0 q), λ f. e.1 ((nesting_exact P tokens).1 (f, shallow)))
 
     -- room for as many events as there are tokens is enough for a list that fits
-    pub roomy_fits_quiet : checked s base ≡ Checked.Passed → Regular tokens → length tokens ≤ length events / event_size → FitsBy P max_depth tokens → Run
+    pub roomy_fits_quiet : checked s base ≡ Ok tt → Regular tokens → length tokens ≤ length events / event_size → FitsBy P max_depth tokens → Run
     roomy_fits_quiet p g h d =
         let q = (quiet_fits_within P base tokens (laid p) g).1 d in
         told.1 (record { passed = p; quiet = q; fits = le_trans (quiet_count P base tokens (laid p) g q) h })
 
   -- room for three times as many is enough for any list
-  pub roomy_ready : checked s base ≡ Checked.Passed → Regular tokens → 3 * length tokens ≤ length events / event_size → Ready options s base events errors
+  pub roomy_ready : checked s base ≡ Ok tt → Regular tokens → 3 * length tokens ≤ length events / event_size → Ready options s base events errors
   roomy_ready p g h = record { passed = p; regular = g; room = room_events options document_entry s base events errors (omega (arith, h, three_events document_entry (count s), all_length s base)) }
 
   -- the events in its buffer lie end to end, from the base to the end of the text

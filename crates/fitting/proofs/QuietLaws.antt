@@ -8,10 +8,10 @@ use Prim.Native.Nat.{ℕ, zero, suc, ◌+◌, ◌*◌, ◌/◌, ◌<◌, ◌≤�
 use native.Mathlib.Omega.{arith}
 use lib.ListN.{length, take, get_or}
 use borrow.Author.Tests.{ltb-false, le-ltb}
-use Rattle.token.specs.declared.checked.Checked.{Checked}
+use Rattle.std.specs.Prelude.{Ok, Err}
 use Rattle.token.specs.Tokens.{Tok, all_tokens}
-use Rattle.token.specs.Check.{checked}
-use Rattle.token.specs.CheckLaws.{refused_number}
+use Rattle.token.specs.Check.{checked, Checked}
+use Rattle.token.specs.CheckLaws.{refusal_numbered}
 use Rattle.rules.specs.declared.event.Event.{Event}
 use Rattle.rules.specs.Out.{Item, event, event_after, report, trailing_comma, stop}
 use Rattle.rules.specs.Entries.{Entry, parse}
@@ -123,17 +123,17 @@ module _ (mode : Mode) (all : List Tok) (is : List Item) (evs ers : List ℕ) wh
 
 -- what a quiet run of an entry is, with keys of the kinds P, said of the check, the rules' items and the room for events
 pub record QuietOutcome (P : Parts) (e : Entry) (s : List ℕ) (base : ℕ) (evs : List ℕ) : Type 0 where
-  pub passed : checked s base ≡ Checked.Passed
+  pub passed : checked s base ≡ Ok tt
   pub quiet : Quiet P (parse e (all_tokens s base)).items
   pub fits : length (events_of (all_tokens s base) (parse e (all_tokens s base)).items) ≤ length evs / event_size
 
 module _ (options : Options) (e : Entry) (s : List ℕ) (base : ℕ) (evs ers : List ℕ) where
   -- refusals 1 to 5 are no quiet run
-  by_check : (c : Checked) → checked s base ≡ c → QuietRun (outcome_by c options e s base evs ers) → checked s base ≡ Checked.Passed
-  by_check Checked.Passed h q = h
-  by_check (Checked.Refused r i) h q = absurd (refused_number s base r i h q.accepted)
+  by_check : (c : Checked) → checked s base ≡ c → QuietRun (outcome_by c options e s base evs ers) → checked s base ≡ Ok tt
+  by_check (Ok u) h q = h
+  by_check (Err r) h q = absurd (refusal_numbered r.refusal q.accepted)
 
-  pub quiet_passed : QuietRun (outcome options e s base evs ers) → checked s base ≡ Checked.Passed
+  pub quiet_passed : QuietRun (outcome options e s base evs ers) → checked s base ≡ Ok tt
   unfolding outcome
   quiet_passed q = by_check (checked s base) refl q
 

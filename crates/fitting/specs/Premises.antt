@@ -1,9 +1,8 @@
 -- Demand 3 in definitions: what is supposed of a token list, and what is said of the events of a quiet run. The first are properties of the
 -- list, the second of words in a buffer; only `document_run`, the room in `Ready` and `events_left` have to do with a run. Assumes nothing.
-use Rattle.std.specs.Prelude.{ℕ, zero, suc, ◌≡◌, cond, List, [], ◌∷◌, take, drop, eqb}
+use Rattle.std.specs.Prelude.{ℕ, zero, suc, ◌≡◌, cond, List, [], ◌∷◌, take, drop, eqb, Ok}
 use Rattle.token.specs.declared.kind.Kind.{Kind}
 use Rattle.token.specs.declared.kind.Kind.TheVariants.{Dot, Equals, Comma, LeftSquareBracket, RightSquareBracket, LeftCurlyBracket, RightCurlyBracket, Whitespace, Comment, Newline, LiteralString, BasicString, MlLiteralString, MlBasicString, Atom, Eof}
-use Rattle.token.specs.declared.checked.Checked.{Checked}
 use Rattle.token.specs.Tokens.{Tok, tok, all_tokens}
 use Rattle.token.specs.Check.{checked}
 use Rattle.rules.specs.declared.options.Options.{Options}
@@ -72,7 +71,7 @@ document_run options s base events errors = outcome options document_entry s bas
 -- refusals 1 to 5 do not come; nor does 7, so the events fit. Errors there are none (8), and the depth (6) is said with `FitsWithin` or
 -- `NestedWithin`.
 pub record Ready (options : Options) (s : List ℕ) (base : ℕ) (events errors : List ℕ) : Type 0 where
-  pub passed : checked s base ≡ Checked.Passed
+  pub passed : checked s base ≡ Ok tt
   pub regular : Regular (all_tokens s base)
   pub room : (document_run options s base events errors).answer.refusal ≡ 7 → ⊥
 

@@ -1,6 +1,5 @@
 // Demand 3: the theorems between the rules and the token grammar, each the contract of a function that does nothing.
 ghost use Rattle.std.specs.Prelude.{◌≡◌, ◌↔◌, [], ◌/◌, ◌≤◌, length};
-ghost use Rattle.token.specs.declared.checked.Checked.{Checked};
 ghost use Rattle.token.specs.Tokens.{all_tokens};
 ghost use Rattle.token.specs.Check.{checked};
 ghost use Rattle.rules.specs.Answer.{event_size};
@@ -30,7 +29,7 @@ pub fn quiet_exactly_when_fits_within(s: &[u8], base: u32, events: &[u32], error
 // Room for as many events as there are tokens is enough: a run over a list that fits within the depth is then quiet, without a multi-line key.
 pub fn fits_then_quiet(s: &[u8], base: u32, events: &[u32], errors: &[u32])
     ensures { (options : Options)
-        → checked s.now base ≡ Checked.Passed
+        → checked s.now base ≡ Ok tt
         → Regular (all_tokens s.now base)
         → length (all_tokens s.now base) ≤ length events.now / event_size
         → FitsWithin max_depth (all_tokens s.now base)
@@ -61,7 +60,7 @@ pub fn quiet_exactly_when_fits_wide_within(s: &[u8], base: u32, events: &[u32], 
 
 pub fn fits_wide_then_quiet(s: &[u8], base: u32, events: &[u32], errors: &[u32])
     ensures { (options : Options)
-        → checked s.now base ≡ Checked.Passed
+        → checked s.now base ≡ Ok tt
         → Regular (all_tokens s.now base)
         → length (all_tokens s.now base) ≤ length events.now / event_size
         → FitsWideWithin max_depth (all_tokens s.now base)

@@ -1,6 +1,7 @@
 -- The headers of a list of events, worked out from the kinds of the events alone, and the bytes that stand for them. Assumes nothing.
 use Rattle.std.specs.Prelude.{ℕ, zero, suc, ◌*◌, ◌/◌, ◌%◌, Bool, true, false, cond, List, [], ◌∷◌, ◌++◌, eqb, get_or}
 use Rattle.rules.specs.Answer.{event_size}
+use Rattle.headers.specs.declared.header.Header.{Header}
 
 -- 1, std_table_open, and 3, array_table_open
 abbrev pub opens_header : ℕ → Bool
@@ -10,18 +11,6 @@ opens_header kind = cond (eqb kind 1) true (eqb kind 3)
 abbrev pub closing : Bool → ℕ
 closing true = 4
 closing false = 2
-
-abbrev pub one_if : Bool → ℕ
-one_if true = 1
-one_if false = 0
-
--- a header: the place of its open event, the number of key parts, whether it is an array table, and the number of events from that one up
--- to the next header or the end
-pub record Header : Type 0 where
-  pub place : ℕ
-  pub parts : ℕ
-  pub array : Bool
-  pub events : ℕ
 
 -- the simple_key events (kind 5) up to the event that closes. In a quiet run it comes; in other words the next header or the end may come
 -- before it

@@ -1,31 +1,21 @@
 // How many headers there are.
-ghost use Rattle.std.specs.Prelude.{◌≡◌, ◌*◌, ◌≤◌, length};
+ghost use Rattle.std.specs.Prelude.{◌≡◌, ◌/◌, length};
 ghost use Rattle.rules.specs.Answer.{event_size};
-ghost use Rattle.headers.specs.Headers.{one_if, headers_in};
+ghost use Rattle.headers.specs.Headers.{headers_in};
 
-use crate::state::{kind_at, opens_header};
+use crate::header::{kind_at, opens_header};
+use rules::answer::EVENT_WORDS;
 
-fn one_if(yes: bool) -> usize
-    ensures { result ≡ one_if yes }
-{
-    if yes {
-        return 1;
-    }
-    0
-}
-
-// How many headers the first n events have.
-pub fn count_headers(events: &[u32], n: usize) -> usize
-    requires { n * event_size ≤ length events.now }
-    ensures { result ≡ length (headers_in n events.now) }
+// How many headers the events have. Words behind the last whole event do not count.
+#[tactic(auto, using(crate::proofs::CountLaws::at_header, crate::proofs::CountLaws::at_other, crate::proofs::CountLaws::headers_end, crate::proofs::CountLaws::headers_start))]
+pub fn count_headers(events: &[u32]) -> usize
+    ensures { result ≡ length (headers_in (length events.now / event_size) events.now) }
 {
     let mut found = 0;
-    let mut i = 0;
-    while i < n {
-        let kind = kind_at(events, i);
-        let opens = opens_header(kind);
-        found += one_if(opens);
-        i += 1;
+    for i in 0..events.len() / EVENT_WORDS {
+        if opens_header(kind_at(events, i)) {
+            found += 1;
+        }
     }
     found
 }

@@ -2,4 +2,5 @@
 #![tactic(auto)]
 
 pub mod counted;
+pub mod header;
 pub mod state;

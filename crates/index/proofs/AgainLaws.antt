@@ -10,7 +10,8 @@ use lib.ListN.{length, get_or, length-append}
 use lib.Seq.{get_or-append-add}
 use lib.Dec.{eqb, ltb}
 use Rattle.index_entries.specs.declared.reading.HeaderAt.{HeaderAt}
-use Rattle.headers.specs.Headers.{Header, opens_header, closing, parts_up_to, up_to_header, headers_from, kinds_from, headers_in, mark, entry_size, entry_bytes, index_bytes}
+use Rattle.headers.specs.declared.header.Header.{Header}
+use Rattle.headers.specs.Headers.{opens_header, closing, parts_up_to, up_to_header, headers_from, kinds_from, headers_in, mark, entry_size, entry_bytes, index_bytes}
 use Rattle.index_entries.specs.Reading.{two_at, four_at, is_entry, header_at}
 use Rattle.index.specs.Reads.{ReadsFrom, IndexReads}
 use Rattle.headers.proofs.CountLaws.{kinds_length}
@@ -84,14 +85,14 @@ module _ (front : List ℕ) (h : Header) (rest : List ℕ) (fits : Fits h) where
   not_end : length front ≡ length all → ⊥
   not_end e = omega (arith, e, room)
 
-  read_one_lem : header_at all (length front) ≡ HeaderAt.Entry h.place h.parts h.array h.events (length front + entry_size)
+  read_one_lem : header_at all (length front) ≡ HeaderAt.Entry h (length front + entry_size)
   read_one_lem =
       let place : two_at all (length front + 6) ≡ h.place = two_read front here 6 ∙ two_whole h.place fits.place in
       let parts : four_at all (length front + 8) ≡ h.parts = four_read front here 8 ∙ four_whole h.parts fits.parts in
       let events : four_at all (length front + 13) ≡ h.events = four_read front here 13 ∙ four_whole h.events fits.events in
       let array : eqb (get_or all (length front + 12) 0) 1 ≡ h.array = ap (λ (k : ℕ). eqb k 1) (byte front here 12) ∙ mark_read h.array in
       sym (an_entry all (length front) not_end entry_there)
-      ∙ λ i. HeaderAt.Entry (place i) (parts i) (array i) (events i) (length front + entry_size)
+      ∙ λ i. HeaderAt.Entry (record { place = place i; parts = parts i; array = array i; events = events i }) (length front + entry_size)
 
 -- headers all of whose fields fit
 data AllFit : List Header → Type 0 where

@@ -10,11 +10,14 @@ use lib.Dec.{eqb, ltb}
 use borrow.Author.Tests.{lt-ltb}
 use Rattle.token.specs.Limits.{max_records}
 use Rattle.rules.specs.Answer.{event_size}
+use Rattle.std.specs.Prelude.{Option, Some, None}
+use Rattle.headers.specs.declared.header.Header.{Header}
+use Rattle.headers.specs.declared.state.OpenHeader.{OpenHeader}
 use Rattle.headers.specs.declared.state.IndexState.{IndexState}
-use Rattle.headers.specs.Headers.{opens_header, Header, kinds_from, headers_in, entry_size, entry_bytes, index_bytes}
-use Rattle.headers.specs.States.{more, parts_after, state_after, state_behind, fresh, header_of, ended, Finishable, Finished}
+use Rattle.headers.specs.Headers.{opens_header, kinds_from, headers_in, entry_size, entry_bytes, index_bytes}
+use Rattle.headers.specs.States.{parts_after, passed, opened_at, state_after, state_behind, fresh, header_of, headers_of, ended, Begun, Finishable, Finished}
 use Rattle.headers.specs.Placing.{placed}
-use Rattle.headers.proofs.StateLaws.{current, collected, finished, Within, noted}
+use Rattle.headers.proofs.StateLaws.{current, currents, collected, finished, Among, Within, noted}
 use Rattle.index_entries.proofs.PlacedLaws.{placed_on, placed_none, placed_length, placed_start, index_length, index_append}
 
 -- a header that ends here has the parts and the events so far
@@ -22,22 +25,22 @@ no_more_parts : (counting : Bool) (parts : ℕ) → parts + cond counting 0 0 �
 no_more_parts true parts = omega arith
 no_more_parts false parts = omega arith
 
-current_end : (state : IndexState) → current state [] ≡ header_of state
-current_end state =
-    let events : state.at - state.place + 0 ≡ state.at - state.place = omega arith in
-    rw (no_more_parts state.counting state.parts, events)
+current_end : (header : OpenHeader) (at : ℕ) → current header at [] ≡ header_of header at
+current_end header at =
+    let events : at - header.place + 0 ≡ at - header.place = omega arith in
+    rw (no_more_parts header.counting header.parts, events)
 
-ended_by : (found : Bool) (state : IndexState) → state.found ≡ found → cond state.found (current state [] ∷ []) [] ≡ ended true state
-ended_by true state e = rw e (ap (λ (h : Header). h ∷ []) (current_end state))
-ended_by false state e = rw e
+currents_end : (header : Option OpenHeader) (at : ℕ) → currents header at [] ≡ headers_of header at
+currents_end None at = refl
+currents_end (Some header) at = ap (λ (h : Header). h ∷ []) (current_end header at)
 
 -- what an event finishes, and what the end finishes
 finished_is : (opens : Bool) (state : IndexState) (kind : ℕ) → opens_header kind ≡ opens → finished state kind ≡ ended opens state
-finished_is true state kind o = rw o (ended_by state.found state refl)
+finished_is true state kind o = rw o (currents_end state.header state.at)
 finished_is false state kind o = rw o
 
 collected_end : (state : IndexState) → collected state [] ≡ ended true state
-collected_end state = ended_by state.found state refl
+collected_end state = append-nil (currents state.header state.at []) ∙ currents_end state.header state.at
 
 parts_few : (counting : Bool) (kind parts at : ℕ) → parts ≤ at → at < 18446744073709551615 → parts_after counting kind parts ≤ at + 1
 parts_few true kind parts at h s = by (eqb kind 5) refl
@@ -47,23 +50,25 @@ parts_few true kind parts at h s = by (eqb kind 5) refl
     by false e = simp e (omega arith)
 parts_few false kind parts at h s = omega arith
 
+among_after : (opens : Bool) (header : Option OpenHeader) (at kind : ℕ) → opens_header kind ≡ opens → at < 18446744073709551615 → Among header at
+    → Among (cond (opens_header kind) (Some (opened_at at kind)) (passed header kind)) (at + 1)
+among_after true header at kind o s a = rw o (omega arith, omega arith)
+among_after false None at kind o s a = rw o tt
+among_after false (Some header) at kind o s a = rw o (omega (arith, a.0), parts_few header.counting kind header.parts at a.1 s)
+
 record After (state : IndexState) (kind : ℕ) : Type 0 where
   at : (state_after state kind).at ≡ state.at + 1
-  place : (state_after state kind).place ≤ state.at + 1
-  parts : (state_after state kind).parts ≤ state.at + 1
+  among : Among (state_after state kind).header (state.at + 1)
 
-after : (opens : Bool) (state : IndexState) (kind : ℕ) → opens_header kind ≡ opens → Within state → After state kind
+after : (state : IndexState) (kind : ℕ) → Within state → After state kind
 unfolding state_after
-after true state kind o w =
+after state kind w =
     let l : ltb state.at 18446744073709551615 ≡ true = lt-ltb state.at 18446744073709551615 w.small in
-    record { at = simp (o, l); place = simp o (omega arith); parts = simp o (omega arith) }
-after false state kind o w =
-    let l : ltb state.at 18446744073709551615 ≡ true = lt-ltb state.at 18446744073709551615 w.small in
-    record {
-      at = simp (o, l);
-      place = simp o (omega (arith, w.place));
-      parts = simp o (parts_few state.counting kind state.parts state.at w.parts w.small);
-    }
+    record { at = simp l; among = among_after (opens_header kind) state.header state.at kind refl w.small w.among }
+
+begun : (header : Option OpenHeader) (at : ℕ) → Among header at → Begun header at
+begun None at a = tt
+begun (Some header) at a = a.0
 
 -- the kinds of the events from i on, of n
 abbrev pub rest : ℕ → ℕ → List ℕ → List ℕ
@@ -83,8 +88,7 @@ pub record Walking (n : ℕ) (events out₀ : List ℕ) (state : IndexState) (k 
   pub at : state.at ≡ i
   pub low : i ≤ n
   pub few : n ≤ max_records
-  pub place : state.place ≤ i
-  pub parts : state.parts ≤ i
+  pub among : Among state.header i
   pub states : state_behind state (rest n i events) ≡ state_behind fresh (kinds_from n 0 events)
   pub total : k + length (collected state (rest n i events)) ≡ length (headers_in n events)
   pub room : entry_size * length (headers_in n events) ≤ length out
@@ -100,8 +104,7 @@ walking_begun n events out state e few room =
       at = refl;
       low = omega arith;
       few = few;
-      place = omega arith;
-      parts = omega arith;
+      among = tt;
       states = rw r;
       total = rw r (omega arith);
       room = room;
@@ -111,10 +114,10 @@ walking_begun n events out state e few room =
 
 module _ {n : ℕ} {events out₀ : List ℕ} {state : IndexState} {k i : ℕ} {out : List ℕ} (w : Walking n events out₀ state k i out) where
   within : i ≤ n → Within state
-  within h = record { small = omega (arith, w.at, w.few); place = omega (arith, w.at, w.place); parts = omega (arith, w.at, w.parts) }
+  within h = record { small = omega (arith, w.at, w.few); among = subst (λ (at : ℕ). Among state.header at) (sym w.at) w.among }
 
-  placed_low : state.place ≤ state.at
-  placed_low = omega (arith, w.at, w.place)
+  header_begun : Begun state.header state.at
+  header_begun = begun state.header state.at (within w.low).among
 
   -- what is finished, and what comes behind it
   module _ (done more : List Header) (e : done ++ more ≡ collected state (rest n i events)) where
@@ -149,12 +152,12 @@ module _ {n : ℕ} {events out₀ : List ℕ} {state : IndexState} {k i : ℕ} {
         ∙ ap (λ (kinds : List ℕ). collected state kinds) (sym (rest_on n i events less))
 
     pub turn_fits : Finishable opens state k out
-    turn_fits = record { room = done_room (ended opens state) (collected (state_after state kind) (rest n (i + 1) events)) cut; place = placed_low }
+    turn_fits = record { room = done_room (ended opens state) (collected (state_after state kind) (rest n (i + 1) events)) cut; begun = header_begun }
 
     pub walking_on : (k' : ℕ) (out' : List ℕ) (state' : IndexState) → Finished opens state k out out' k' → state' ≡ state_after state kind → Walking n events out₀ state' k' (i + 1) out'
     unfolding state_behind
     walking_on k' out' state' f es =
-        let a = after opens state kind (sym o) (within w.low) in
+        let a = after state kind (within w.low) in
         let more : List Header = collected (state_after state kind) (rest n (i + 1) events) in
         let l = done_length (ended opens state) more cut in
         subst (λ (s : IndexState). Walking n events out₀ s k' (i + 1) out') (sym es)
@@ -164,8 +167,7 @@ module _ {n : ℕ} {events out₀ : List ℕ} {state : IndexState} {k i : ℕ} {
           at = a.at ∙ omega (arith, w.at);
           low = omega arith;
           few = w.few;
-          place = omega (arith, a.place, w.at);
-          parts = omega (arith, a.parts, w.at);
+          among = subst (λ (at : ℕ). Among (state_after state kind).header (at + 1)) w.at a.among;
           states = ap (λ (kinds : List ℕ). state_behind state kinds) (sym (rest_on n i events less)) ∙ w.states;
           total = omega (arith, lengths (ended opens state) more cut, w.total);
           room = omega (arith, l, w.keeps, w.room);
@@ -178,7 +180,7 @@ module _ {n : ℕ} {events out₀ : List ℕ} {state : IndexState} {k i : ℕ} {
     last = append-nil (ended true state) ∙ sym (collected_end state) ∙ ap (λ (kinds : List ℕ). collected state kinds) (sym (rest_end n i events over))
 
     pub last_fits : Finishable true state k out
-    last_fits = record { room = done_room (ended true state) [] last; place = placed_low }
+    last_fits = record { room = done_room (ended true state) [] last; begun = header_begun }
 
     pub walking_end : (out' : List ℕ) (k' : ℕ) → Finished true state k out out' k' → out' ≡ index_bytes (headers_in n events) ++ drop (entry_size * length (headers_in n events)) out₀
     unfolding index_bytes
@@ -193,39 +195,34 @@ module _ {n : ℕ} {events out₀ : List ℕ} {state : IndexState} {k i : ℕ} {
     end_state = ap (λ (kinds : List ℕ). state_behind state kinds) (sym (rest_end n i events over)) ∙ w.states
 
 -- `finish`: one entry, or none
-module _ (k : ℕ) (state : IndexState) (out : List ℕ) (ends : Bool) where
-  one_ends : ends ≡ true → state.found ≡ true → ended ends state ≡ header_of state ∷ []
-  one_ends e f = rw e (rw f)
+module _ (k : ℕ) (state : IndexState) (out : List ℕ) where
+  one_ends : (header : OpenHeader) → state.header ≡ Some header → ended true state ≡ header_of header state.at ∷ []
+  one_ends header e = ap (λ (h : Option OpenHeader). headers_of h state.at) e
 
-  pub none_found : ends ≡ true → state.found ≡ false → ended ends state ≡ []
-  none_found e f = rw e (rw f)
+  pub one_fits : (header : OpenHeader) → state.header ≡ Some header → Finishable true state k out → entry_size * k + entry_size ≤ length out
+  one_fits header e h = let l = ap length (one_ends header e) in omega (arith, l, h.room)
 
-  pub none_ends : ends ≡ false → ended ends state ≡ []
-  none_ends e = rw e
+  pub one_begun : (header : OpenHeader) → state.header ≡ Some header → Finishable true state k out → header.place ≤ state.at
+  one_begun header e h = subst (λ (x : Option OpenHeader). Begun x state.at) e h.begun
 
-  pub one_fits : ends ≡ true → state.found ≡ true → Finishable ends state k out → entry_size * k + entry_size ≤ length out
-  one_fits e f h = let l = ap length (one_ends e f) in omega (arith, l, h.room)
-
-  pub writes_one : ends ≡ true → state.found ≡ true → (out' : List ℕ) → out' ≡ placed (entry_size * k) (entry_bytes (header_of state)) out → Finished ends state k out out' (k + 1)
+  pub writes_one : (header : OpenHeader) → state.header ≡ Some header → (out' : List ℕ) → out' ≡ placed (entry_size * k) (entry_bytes (header_of header state.at)) out → Finished true state k out out' (k + 1)
   unfolding index_bytes
-  writes_one e f out' p =
+  writes_one header e out' p =
       record {
-        entries = ap (λ (hs : List Header). k + length hs) (sym (one_ends e f));
-        bytes = p ∙ ap (λ (hs : List Header). placed (entry_size * k) (index_bytes hs) out) (sym (one_ends e f));
+        entries = ap (λ (hs : List Header). k + length hs) (sym (one_ends header e));
+        bytes = p ∙ ap (λ (hs : List Header). placed (entry_size * k) (index_bytes hs) out) (sym (one_ends header e));
       }
 
-  pub writes_none : ended ends state ≡ [] → Finished ends state k out out k
+  writes_none : (ends : Bool) → ended ends state ≡ [] → Finished ends state k out out k
   unfolding index_bytes
-  writes_none e =
+  writes_none ends e =
       record {
         entries = omega (arith, ap length e);
         bytes = sym (placed_none (entry_size * k) out) ∙ ap (λ (hs : List Header). placed (entry_size * k) (index_bytes hs) out) (sym e);
       }
 
--- `finish_before`: the test is the rule's
-module _ (k : ℕ) (state : IndexState) (out : List ℕ) (ends opens : Bool) (e : ends ≡ opens) where
-  pub opens_fits : Finishable opens state k out → Finishable ends state k out
-  opens_fits h = subst (λ (b : Bool). Finishable b state k out) (sym e) h
+  pub none_met : state.header ≡ None → Finished true state k out out k
+  none_met e = writes_none true (ap (λ (h : Option OpenHeader). headers_of h state.at) e)
 
-  pub opens_writes : (out' : List ℕ) (k' : ℕ) → Finished ends state k out out' k' → Finished opens state k out out' k'
-  opens_writes out' k' f = subst (λ (b : Bool). Finished b state k out out' k') e f
+  pub none_ends : Finished false state k out out k
+  none_ends = writes_none false refl

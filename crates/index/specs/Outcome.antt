@@ -5,7 +5,8 @@ use Rattle.rules.specs.declared.answer.Answer.{Answer}
 use Rattle.rules.specs.Answer.{event_size}
 use Rattle.quiet.specs.Runs.{QuietAnswer}
 use Rattle.index.specs.declared.Indexed.{Indexed}
-use Rattle.headers.specs.Headers.{Header, headers_in, index_bytes, entry_size}
+use Rattle.headers.specs.declared.header.Header.{Header}
+use Rattle.headers.specs.Headers.{headers_in, index_bytes, entry_size}
 use Rattle.index.specs.Refusals.{not_quiet, no_room_for_index}
 
 -- the answer and the words are those of a quiet run, the buffer holds its events, and they are no more than such a run can have: one a record

@@ -1,38 +1,26 @@
 -- Bytes put into a buffer, one run behind the other. Proved; nothing here needs to be believed.
 use mathlib.Core.Path.{◌≡◌, refl, sym, ap, ◌∙◌}
 use mathlib.Core.List.{List, [], ◌∷◌, ◌++◌, append_assoc}
-use Prim.Native.Nat.{ℕ, suc, ◌+◌, ◌-◌, ◌*◌, ◌≤◌}
+use Prim.Native.Nat.{ℕ, ◌+◌, ◌*◌, ◌%◌, ◌≤◌}
 use native.Mathlib.Omega.{arith}
-use lib.ListN.{length, take, drop, set, length-append, length-drop, take-append-drop}
-use lib.Seq.{sets-eq, take_at, drop-append-add, drop-drop, length-take-le}
-use Rattle.headers.specs.Headers.{Header, entry_size, entry_bytes, index_bytes, four_bytes, two_bytes, mark}
+use borrow.Rule.Slice.PartMut.{put_mid}
+use mir.Val.{bool_byte}
+use mathlib.Core.Bool.{Bool, true, false}
+use lib.ListN.{length, take, drop, length-append, length-drop, take-append-drop}
+use lib.Seq.{take_at, drop-append-add, drop-drop, length-take-le}
+use Rattle.headers.specs.declared.header.Header.{Header}
+use Rattle.headers.specs.Headers.{entry_size, entry_bytes, index_bytes, four_bytes, two_bytes, mark}
 use Rattle.headers.specs.Placing.{placed}
 
-placed_literal : (s : List ℕ) (k : ℕ) (bytes : List ℕ) → take k s ++ bytes ++ drop (k + length bytes) s ≡ placed k bytes s
+-- the low byte of an array mark
+pub mark_low : (b : Bool) → bool_byte b % 256 ≡ mark b
+mark_low true = refl
+mark_low false = refl
+
+-- bytes copied over a part of the buffer
+pub copied : (at n : ℕ) (bytes part s : List ℕ) → part ≡ bytes → n ≡ length bytes → put_mid at n s part ≡ placed at bytes s
 unfolding placed
-placed_literal s k bytes = append_assoc (take k s) bytes (drop (k + length bytes) s)
-
-one_set : (s : List ℕ) (k a : ℕ) → k + 1 ≤ length s → set s k a ≡ take k s ++ (a ∷ []) ++ drop (k + 1) s
-one_set s k a h = sets-eq (a ∷ []) s k h
-
-pub one_store : (s : List ℕ) (k a : ℕ) → k + 1 ≤ length s → set s k a ≡ placed k (a ∷ []) s
-one_store s k a h = one_set s k a h ∙ placed_literal s k (a ∷ [])
-
-two_sets : (s : List ℕ) (k a b : ℕ) → k + 2 ≤ length s → set (set s k a) (k + 1) b ≡ take k s ++ (a ∷ b ∷ []) ++ drop (k + 2) s
-two_sets s k a b h = let e1 : k + 1 ≡ suc k = omega arith in rw e1 (sets-eq (a ∷ b ∷ []) s k h)
-
-pub two_stores : (s : List ℕ) (k a b : ℕ) → k + 2 ≤ length s → set (set s k a) (k + 1) b ≡ placed k (a ∷ b ∷ []) s
-two_stores s k a b h = two_sets s k a b h ∙ placed_literal s k (a ∷ b ∷ [])
-
-four_sets : (s : List ℕ) (k a b c d : ℕ) → k + 4 ≤ length s → set (set (set (set s k a) (k + 1) b) (k + 2) c) (k + 3) d ≡ take k s ++ (a ∷ b ∷ c ∷ d ∷ []) ++ drop (k + 4) s
-four_sets s k a b c d h =
-    let e1 : k + 1 ≡ suc k = omega arith in
-    let e2 : k + 2 ≡ suc (suc k) = omega arith in
-    let e3 : k + 3 ≡ suc (suc (suc k)) = omega arith in
-    rw (e1, e2, e3) (sets-eq (a ∷ b ∷ c ∷ d ∷ []) s k h)
-
-pub four_stores : (s : List ℕ) (k a b c d : ℕ) → k + 4 ≤ length s → set (set (set (set s k a) (k + 1) b) (k + 2) c) (k + 3) d ≡ placed k (a ∷ b ∷ c ∷ d ∷ []) s
-four_stores s k a b c d h = four_sets s k a b c d h ∙ placed_literal s k (a ∷ b ∷ c ∷ d ∷ [])
+copied at n bytes part s e l = rw (e, l, drop-drop (length bytes) at s)
 
 -- where bytes were put: what stands before their end, and what stands behind
 module _ (at : ℕ) (bytes s : List ℕ) (h : at + length bytes ≤ length s) where

@@ -21,5 +21,7 @@ unfoldable pub header_at : List ℕ → ℕ → HeaderAt
 header_at bytes at =
     cond (eqb at (length bytes)) HeaderAt.End
     (cond (is_entry bytes at)
-    (HeaderAt.Entry (two_at bytes (at + 6)) (four_at bytes (at + 8)) (eqb (get_or bytes (at + 12) 0) 1) (four_at bytes (at + 13)) (at + entry_size))
+    (HeaderAt.Entry
+    (record { place = two_at bytes (at + 6); parts = four_at bytes (at + 8); array = eqb (get_or bytes (at + 12) 0) 1; events = four_at bytes (at + 13) })
+    (at + entry_size))
     HeaderAt.NoEntry)

@@ -1,60 +1,44 @@
 // The index, read: the header at a position of its bytes.
-ghost use Rattle.std.specs.Prelude.{◌≡◌, ◌+◌, ◌<◌, ◌≤◌, length};
+ghost use Rattle.std.specs.Prelude.{◌≡◌, ◌+◌, ◌≤◌, length};
 ghost use Rattle.headers.specs.Headers.{entry_size};
 ghost use Rattle.index_entries.specs.Reading.{two_at, four_at, is_entry, header_at};
 
-use crate::entry::ENTRY_SIZE;
+use crate::entry::{ENTRY_SIZE, SHORT_PLACES};
+use headers::header::Header;
 
-// An entry: place, key parts, whether it is an array table, events, and the position behind it. Or the position is the end of the bytes. Or
-// the bytes there are no entry.
+// An entry, and the position behind it. Or the position is the end of the bytes. Or the bytes there are no entry.
 #[derive(Clone, Copy)]
 pub enum HeaderAt {
-    Entry(usize, usize, bool, usize, usize),
+    Entry(Header, usize),
     End,
     NoEntry,
 }
 
-fn wide(byte: u8) -> usize
-    ensures { (result ≡ byte) × (result < 256) }
-{
-    byte as usize
-}
-
 fn two_at(bytes: &[u8], at: usize) -> usize
     requires { at + 2 ≤ length bytes.now }
-    ensures { (result ≡ two_at bytes.now at) × (result < 65536) }
+    ensures { result ≡ two_at bytes.now at }
 {
-    let low = wide(bytes[at]);
-    let high = wide(bytes[at + 1]);
-    low + high * 256
+    usize::from(u16::from_le_bytes([bytes[at], bytes[at + 1]]))
 }
 
 fn four_at(bytes: &[u8], at: usize) -> usize
     requires { at + 4 ≤ length bytes.now }
     ensures { result ≡ four_at bytes.now at }
 {
-    let low = two_at(bytes, at);
-    let high = two_at(bytes, at + 2);
-    low + high * 65536
+    u32::from_le_bytes([bytes[at], bytes[at + 1], bytes[at + 2], bytes[at + 3]]) as usize
 }
 
 // Whether an entry starts there, which has room.
+#[tactic(auto, unfolding(crate::specs::Reading::is_entry))]
 fn is_entry(bytes: &[u8], at: usize) -> bool
     requires { at + entry_size ≤ length bytes.now }
     ensures { result ≡ is_entry bytes.now at }
 {
-    let size = four_at(bytes, at);
-    if size == ENTRY_SIZE {
-        let kind = two_at(bytes, at + 4);
-        if kind == 1 {
-            return bytes[at + 12] < 2;
-        }
-        return false;
-    }
-    false
+    four_at(bytes, at) == ENTRY_SIZE && two_at(bytes, at + 4) == SHORT_PLACES && bytes[at + 12] < 2
 }
 
 // Any bytes may be given, and any position.
+#[tactic(auto, unfolding(crate::specs::Reading::is_entry, crate::specs::Reading::header_at))]
 pub fn header_at(index: &[u8], at: usize) -> HeaderAt
     ensures { result ≡ header_at index.now at }
 {
@@ -62,18 +46,16 @@ pub fn header_at(index: &[u8], at: usize) -> HeaderAt
     if at == size {
         return HeaderAt::End;
     }
-    if size < at {
+    if size < at || size - at < ENTRY_SIZE || !is_entry(index, at) {
         return HeaderAt::NoEntry;
     }
-    if size - at < ENTRY_SIZE {
-        return HeaderAt::NoEntry;
-    }
-    if is_entry(index, at) {
-        let place = two_at(index, at + 6);
-        let parts = four_at(index, at + 8);
-        let array = index[at + 12] == 1;
-        let events = four_at(index, at + 13);
-        return HeaderAt::Entry(place, parts, array, events, at + ENTRY_SIZE);
-    }
-    HeaderAt::NoEntry
+    HeaderAt::Entry(
+        Header {
+            place: two_at(index, at + 6),
+            parts: four_at(index, at + 8),
+            array: index[at + 12] == 1,
+            events: four_at(index, at + 13),
+        },
+        at + ENTRY_SIZE,
+    )
 }

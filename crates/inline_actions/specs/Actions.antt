@@ -1,5 +1,5 @@
 -- The table of an inline table's actions, in numbers. Assumes nothing.
-use Rattle.std.specs.Prelude.{List, [], ◌∷◌, ℕ}
+use Rattle.std.specs.Prelude.{List, [], ◌∷◌, ℕ, get_or}
 use Rattle.rules.specs.declared.inline_table.State.{State}
 use Rattle.rules.specs.declared.inline_table.Action.{Action}
 use Rattle.rules.specs.declared.inline_table.Action.TheVariants as A
@@ -38,6 +38,11 @@ action_number A.Key = 20
 action_number A.DotKey = 21
 action_number A.KeyWithoutComma = 22
 action_number A.DotKeyWithoutComma = 23
+
+-- the action of a number, and the last of one that names none
+unfoldable pub action_from : ℕ → Action
+action_from n =
+    get_or (A.Whitespace ∷ A.Comment ∷ A.Newline ∷ A.Eof ∷ A.ValueSep ∷ A.ExtraComma ∷ A.EmptyKey ∷ A.KeyValSep ∷ A.ExtraAssignment ∷ A.KeylessArray ∷ A.KeylessTable ∷ A.UnassignedArray ∷ A.UnassignedTable ∷ A.UnassignedScalar ∷ A.Array ∷ A.Table ∷ A.Scalar ∷ A.Close ∷ A.InvalidElement ∷ A.ArrayWithoutOpen ∷ A.Key ∷ A.DotKey ∷ A.KeyWithoutComma ∷ []) n A.DotKeyWithoutComma
 
 abbrev pub numbers : List Action → List ℕ
 numbers [] = []

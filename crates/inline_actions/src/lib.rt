@@ -3,7 +3,7 @@
 
 ghost use Rattle.std.specs.Prelude.{◌≡◌};
 ghost use Rattle.rules.specs.InlineTable.{action_of, wanted, encoding_at};
-ghost use Rattle.inline_actions.specs.Actions.{row_of, action_table};
+ghost use Rattle.inline_actions.specs.Actions.{row_of, action_from, action_table};
 
 use classes::keys::in_key;
 use output::expected::{A_KEY, A_VALUE, COMMA, EQUALS};
@@ -12,7 +12,7 @@ use rules::inline_table::{Action, State};
 use rules::keys::InKey;
 use token::kind::{Kind, number_of};
 
-// The number of the action of each state (row) at each kind of token (column).
+// The number of the action of each state (row) at each kind of token (column). Numbers, since an inline table is asked to go by such an array.
 const ACTIONS: [[u8; 16]; 4] = [
     [21, 6, 5, 9, 18, 10, 17, 0, 1, 2, 20, 20, 20, 20, 20, 3],
     [13, 7, 5, 11, 18, 12, 17, 0, 1, 2, 13, 13, 13, 13, 13, 3],
@@ -21,6 +21,7 @@ const ACTIONS: [[u8; 16]; 4] = [
 ];
 
 // The table for the turns of an inline table: a constant array is built anew wherever it is named, so a walk asks for it once and lends it.
+#[tactic(auto, unfolding(crate::specs::Actions::action_table))]
 pub fn action_table() -> [[u8; 16]; 4]
     ensures { result ≡ action_table }
 {
@@ -30,12 +31,7 @@ pub fn action_table() -> [[u8; 16]; 4]
 fn row_of(state: State) -> usize
     ensures { result ≡ row_of state }
 {
-    match state {
-        State::NeedsKey => 0,
-        State::NeedsEquals => 1,
-        State::NeedsValue => 2,
-        State::NeedsComma => 3,
-    }
+    state as usize
 }
 
 pub fn wanted_in(state: State) -> u32
@@ -53,22 +49,18 @@ pub fn wanted_in(state: State) -> u32
 pub fn encoding_at(kind: Kind) -> Encoding
     ensures { result ≡ encoding_at kind }
 {
-    let x = in_key(kind);
-    match x {
+    match in_key(kind) {
         InKey::Part(e) => e,
         _ => Encoding::None,
     }
 }
 
-// The action of a state at a kind of token. The table is lent, since a constant is built anew wherever it is named.
-pub fn action_at(actions: &[[u8; 16]; 4], state: State, kind: Kind) -> Action
-    requires { actions.now ≡ action_table }
-    ensures { result ≡ action_of state kind }
+// The action of a number of the table. A match, since a constant array is built anew wherever it is named.
+#[tactic(auto, unfolding(crate::specs::Actions::action_from))]
+fn action_from(number: u8) -> Action
+    ensures { result ≡ action_from number }
 {
-    let i = row_of(state);
-    let j = number_of(kind) - 1;
-    let a = actions[i][j];
-    match a {
+    match number {
         0 => Action::Whitespace,
         1 => Action::Comment,
         2 => Action::Newline,
@@ -94,4 +86,13 @@ pub fn action_at(actions: &[[u8; 16]; 4], state: State, kind: Kind) -> Action
         22 => Action::KeyWithoutComma,
         _ => Action::DotKeyWithoutComma,
     }
+}
+
+// The action of a state at a kind of token. The table is lent, since a constant is built anew wherever it is named.
+#[tactic(auto, using(crate::proofs::ActionLaws::table_right))]
+pub fn action_at(actions: &[[u8; 16]; 4], state: State, kind: Kind) -> Action
+    requires { actions.now ≡ action_table }
+    ensures { result ≡ action_of state kind }
+{
+    action_from(actions[row_of(state)][number_of(kind) - 1])
 }

@@ -29,7 +29,7 @@ use Rattle.output.specs.WalkLaws.{at_token}
 use Rattle.scalars.specs.ScalarWalks.{Starts}
 use Rattle.array_parts.specs.Turning.{Turned}
 use Rattle.inline_turns.specs.Irregular.{irregular, Irregular}
-use Rattle.inline_turns.specs.declared.table_turn.TableTurn.{TableTurn}
+use Rattle.array_parts.specs.declared.turn.StateTurn.{StateTurn}
 use Rattle.array_parts.specs.declared.turn.Turn.{Turn}
 
 -- inline tables: the token that was read, by the action of the state at its kind
@@ -119,6 +119,6 @@ closes all is i ts o o₁ p = ap (λ (b : Bufs). record { out = b; rest = ts }) 
 
 -- an answer that is made by a function
 module _ {s : List ℕ} {c : Cursor} {o : Bufs} {a b : List ℕ} where
-  pub table_as : {rule : Nest → (Progress → List Tok → Out) → Out} {r : TableTurn} {t : Turn} {p : Progress} → r ≡ record { turn = t; progress = p } → Turned Progress s rule c o a b t.cur t.n p t.next
-      → Turned Progress s rule c o a b r.turn.cur r.turn.n r.progress r.turn.next
-  table_as {rule} e x = subst (λ (z : TableTurn). Turned Progress s rule c o a b z.turn.cur z.turn.n z.progress z.turn.next) (sym e) x
+  pub table_as : {rule : Nest → (Progress → List Tok → Out) → Out} {r : StateTurn Progress} {t : Turn} {p : Progress} → r ≡ record { turn = t; state = p } → Turned Progress s rule c o a b t.cur t.n p t.next
+      → Turned Progress s rule c o a b r.turn.cur r.turn.n r.state r.turn.next
+  table_as {rule} e x = subst (λ (z : StateTurn Progress). Turned Progress s rule c o a b z.turn.cur z.turn.n z.state z.turn.next) (sym e) x

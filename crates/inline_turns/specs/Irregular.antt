@@ -12,7 +12,7 @@ use Rattle.rules.specs.Out.{Place}
 use Rattle.rules.specs.InlineTable.{inline_table_turn}
 use Rattle.output.specs.Pour.{Bufs}
 use Rattle.array_parts.specs.Turning.{Turned}
-use Rattle.inline_turns.specs.declared.table_turn.TableTurn.{TableTurn}
+use Rattle.array_parts.specs.declared.turn.StateTurn.{StateTurn}
 
 -- the token t was read, just before the cursor d
 pub record Read (s : List ℕ) (t : Token) (d : Cursor) : Type 0 where
@@ -28,5 +28,5 @@ abbrev pub Irregular : Action → Type 0
 Irregular x = OneOf irregular (tag_of action.the_type x)
 
 -- a turn at the token t, which was read just before d: wherever it was read, the table's turn from there
-abbrev pub TurnsAt : List ℕ → Place → Token → Cursor → Progress → Bufs → List ℕ → List ℕ → TableTurn → Type 0
-TurnsAt s head t d p o a b r = (c : Cursor) (opened : ℕ) → Took s c t d → Turned Progress s (λ nest loop. inline_table_turn head opened nest loop p (tokens_at s c)) c o a b r.turn.cur r.turn.n r.progress r.turn.next
+abbrev pub TurnsAt : List ℕ → Place → Token → Cursor → Progress → Bufs → List ℕ → List ℕ → StateTurn Progress → Type 0
+TurnsAt s head t d p o a b r = (c : Cursor) (opened : ℕ) → Took s c t d → Turned Progress s (λ nest loop. inline_table_turn head opened nest loop p (tokens_at s c)) c o a b r.turn.cur r.turn.n r.state r.turn.next

@@ -9,8 +9,8 @@ ghost use Rattle.array_parts.specs.Turning.{Turned};
 ghost use Rattle.inline_actions.specs.Actions.{action_table};
 
 use crate::irregular::irregular_turn;
-use crate::table_turn::{TableTurn, ended, opens, read, read_walk, unread, unread_walk};
-use array_parts::turn::{Next, unclosed};
+use crate::table_turn::{TableTurn, opens, read, read_walk};
+use array_parts::turn::{Next, again, again_walk, over, unclosed};
 use inline_actions::action_at;
 use inline_steps::{close, comment, newline};
 use output::emitting::{Counts, emit};
@@ -20,7 +20,7 @@ use rules::event::Event;
 use rules::inline_table::{Action, Progress, State};
 use scalars::scalar::on_scalar;
 use table_keys::{table_dot, table_key};
-use token::cursor::{Cursor, Step, Token};
+use token::cursor::{Cursor, Token};
 
 // One turn in the inline table that `head` opened, of which `opened` is the first record behind it. The table of actions is lent, since the turns of a
 // loop share one. The arms here are what a well-formed table has; what is wrong in one has a function of its own.
@@ -36,10 +36,9 @@ pub fn inline_table_turn(
     errors: &mut [u32],
 ) -> TableTurn
     requires { Good s.now c × (actions.now ≡ action_table) × (opened ≤ count s.now) }
-    ensures { Turned Progress s.now (λ nest loop. inline_table_turn (span head.start head.end) (count s.now - opened) nest loop p (tokens_at s.now c)) c (bufs events.old errors.old m) events.new errors.new result.turn.cur result.turn.n result.progress result.turn.next }
+    ensures { Turned Progress s.now (λ nest loop. inline_table_turn (span head.start head.end) (count s.now - opened) nest loop p (tokens_at s.now c)) c (bufs events.old errors.old m) events.new errors.new result.turn.cur result.turn.n result.state result.turn.next }
 {
-    let step = c.next(s);
-    let Step::Got(t, past) = step else {
+    let Some((t, past)) = c.next(s) else {
         let n = unclosed(
             s,
             head,
@@ -50,23 +49,21 @@ pub fn inline_table_turn(
             events,
             errors,
         );
-        return ended(c, n, p);
+        return over(c, n, p);
     };
-    let k = t.kind;
-    let state = p.state;
-    let action = action_at(actions, state, k);
+    let action = action_at(actions, p.state, t.kind);
     match action {
         Action::Whitespace => {
             let n = emit(events, m, Event::Whitespace, t.start, t.end);
-            unread(past, n, p)
+            again(past, n, p)
         }
         Action::Comment => {
             let w = comment(s, head, t, past, m, events, errors);
-            unread_walk(w, p)
+            again_walk(w, p)
         }
         Action::Newline => {
             let n = newline(head, t, m, events, errors);
-            unread(past, n, p)
+            again(past, n, p)
         }
         Action::ValueSep => {
             let n = emit(events, m, Event::ValueSep, t.start, t.end);
@@ -74,7 +71,7 @@ pub fn inline_table_turn(
                 state: State::NeedsKey,
                 empty: p.empty,
             };
-            unread(past, n, q)
+            again(past, n, q)
         }
         Action::KeyValSep => {
             let n = emit(events, m, Event::KeyValSep, t.start, t.end);
@@ -88,7 +85,7 @@ pub fn inline_table_turn(
         }
         Action::Close => {
             let n = close(c, opened, head, t, m, p, events, errors);
-            ended(past, n, p)
+            over(past, n, p)
         }
         Action::Key => {
             let w = table_key(s, t, past, m, events, errors);

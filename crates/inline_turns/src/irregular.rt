@@ -5,8 +5,8 @@ ghost use Rattle.rules.specs.InlineTable.{action_of};
 ghost use Rattle.output.specs.Pour.{bufs};
 ghost use Rattle.inline_turns.specs.Irregular.{Read, Irregular, TurnsAt};
 
-use crate::table_turn::{TableTurn, ended, opens, read, read_walk, unread, unread_walk};
-use array_parts::turn::Next;
+use crate::table_turn::{TableTurn, opens, read, read_walk};
+use array_parts::turn::{Next, again, again_walk, over};
 use inline_parts::parts::{missing, refuse};
 use inline_steps::{
     dot_without_comma, eof, equals_without_key, key_without_comma, keyless_array, keyless_table,
@@ -39,11 +39,11 @@ pub fn irregular_turn(
     match action {
         Action::Eof => {
             let n = eof(head, t, m, events, errors);
-            ended(c, n, p)
+            over(c, n, p)
         }
         Action::ExtraComma => {
             let n = refuse(m, EXTRA_COMMA_IN_INLINE_TABLE, p, head, t, events, errors);
-            unread(c, n, p)
+            again(c, n, p)
         }
         Action::EmptyKey => {
             let n = equals_without_key(t, m, events);
@@ -51,15 +51,15 @@ pub fn irregular_turn(
         }
         Action::ExtraAssignment => {
             let n = refuse(m, EXTRA_ASSIGNMENT, p, head, t, events, errors);
-            unread(c, n, p)
+            again(c, n, p)
         }
         Action::KeylessArray => {
             let w = keyless_array(s, head, t, c, m, p, events, errors);
-            unread_walk(w, p)
+            again_walk(w, p)
         }
         Action::KeylessTable => {
             let w = keyless_table(s, head, t, c, m, p, events, errors);
-            unread_walk(w, p)
+            again_walk(w, p)
         }
         Action::UnassignedArray => {
             let n = missing(m, MISSING_ASSIGNMENT, p, head, t, errors);
@@ -75,7 +75,7 @@ pub fn irregular_turn(
         }
         Action::InvalidElement => {
             let n = refuse(m, INVALID_INLINE_TABLE_ELEMENT, p, head, t, events, errors);
-            unread(c, n, p)
+            again(c, n, p)
         }
         Action::ArrayWithoutOpen => {
             let n = without_open(m, Bracket::Square, t, events, errors);

@@ -8,11 +8,11 @@ use native.Mathlib.Omega.{arith}
 use lib.ListN.{length}
 use lib.Dec.{ltb}
 use borrow.Author.Tests.{ltb-false, lt-ltb, le-ltb}
-use Rattle.token.specs.declared.checked.Checked.{Checked}
+use Rattle.std.specs.Prelude.{Ok, Err}
 use Rattle.token.specs.Records.{count}
 use Rattle.token.specs.Tokens.{all_tokens}
-use Rattle.token.specs.Check.{checked}
-use Rattle.token.specs.CheckLaws.{refused_number}
+use Rattle.token.specs.Check.{checked, Checked}
+use Rattle.token.specs.CheckLaws.{refusal_numbered}
 use Rattle.token.specs.CursorLaws.{all_length}
 use Rattle.rules.specs.Limits.{max_depth}
 use Rattle.rules.specs.declared.answer.Answer.{Answer}
@@ -44,7 +44,7 @@ Clean o = QuietRun o × NoMultiLineKey o
 -- what the theorems about the rules say of the run
 abbrev pub FitsThenQuiet : List ℕ → ℕ → List ℕ → Type 0
 FitsThenQuiet s base events =
-    checked s base ≡ Checked.Passed → Regular (all_tokens s base) → length (all_tokens s base) ≤ length events / event_size → FitsWithin max_depth (all_tokens s base) → Clean (document_run as_crate s base events [])
+    checked s base ≡ Ok tt → Regular (all_tokens s base) → length (all_tokens s base) ≤ length events / event_size → FitsWithin max_depth (all_tokens s base) → Clean (document_run as_crate s base events [])
 
 record Cited (s : List ℕ) (base : ℕ) (events : List ℕ) : Type 0 where
   pub within : Ready as_crate s base events [] → Clean (document_run as_crate s base events []) ↔ FitsWithin max_depth (all_tokens s base)
@@ -58,11 +58,11 @@ theorems s base events =
     }
 
 -- a quiet run has passed the check
-passed_by_lem : (c : Checked) (s : List ℕ) (base : ℕ) (events : List ℕ) → checked s base ≡ c → QuietRun (outcome_by c as_crate document_entry s base events []) → checked s base ≡ Checked.Passed
-passed_by_lem Checked.Passed s base events h q = h
-passed_by_lem (Checked.Refused r i) s base events h q = absurd (refused_number s base r i h q.accepted)
+passed_by_lem : (c : Checked) (s : List ℕ) (base : ℕ) (events : List ℕ) → checked s base ≡ c → QuietRun (outcome_by c as_crate document_entry s base events []) → checked s base ≡ Ok tt
+passed_by_lem (Ok u) s base events h q = h
+passed_by_lem (Err r) s base events h q = absurd (refusal_numbered r.refusal q.accepted)
 
-quiet_passed : (s : List ℕ) (base : ℕ) (events : List ℕ) → QuietRun (document_run as_crate s base events []) → checked s base ≡ Checked.Passed
+quiet_passed : (s : List ℕ) (base : ℕ) (events : List ℕ) → QuietRun (document_run as_crate s base events []) → checked s base ≡ Ok tt
 unfolding outcome
 quiet_passed s base events q = passed_by_lem (checked s base) s base events refl q
 

@@ -1,7 +1,6 @@
 -- When a list of token records is good to act on, and what `fits` answers. The yes is said over the grammar; the run is how it is found.
 -- Assumes nothing.
-use Rattle.std.specs.Prelude.{ℕ, ◌≤◌, ◌/◌, ◌≡◌, Bool, true, false, cond, ◌↔◌, List, [], length, ltb}
-use Rattle.token.specs.declared.checked.Checked.{Checked}
+use Rattle.std.specs.Prelude.{ℕ, ◌≤◌, ◌/◌, ◌≡◌, Bool, true, false, cond, ◌↔◌, List, [], length, ltb, Ok}
 use Rattle.token.specs.Records.{count}
 use Rattle.token.specs.Tokens.{all_tokens}
 use Rattle.token.specs.Check.{checked}
@@ -15,7 +14,7 @@ use Rattle.judging.specs.declared.verdict.Verdict.{Verdict}
 -- the records s, the first of which starts at base, pass the check, have one Eof, at the end, and no two Whitespace in a row, and fit the
 -- token grammar with at most 64 arrays and inline tables open within one another
 pub record Sound (s : List ℕ) (base : ℕ) : Type 0 where
-  pub passed : checked s base ≡ Checked.Passed
+  pub passed : checked s base ≡ Ok tt
   pub regular : Regular (all_tokens s base)
   pub fitting : FitsWithin max_depth (all_tokens s base)
 

@@ -8,16 +8,14 @@ use crate::verdict::{Verdict, answered, is_unjudged};
 use multi_line_keys::is_quiet_without_multi_line_key;
 use regular::is_regular;
 use rules::answer::{Answer, EVENT_WORDS};
+use token::refusal::Refusal;
 
 // Whether the list is regular. Where that is known, because the caller wrote the records itself, it is not asked.
 fn known_or_regular(known: bool, records: &[u8], base: u32) -> bool
     requires { known ≡ true → Regular (all_tokens records.now base) }
     ensures { (result ≡ true) ↔ Regular (all_tokens records.now base) }
 {
-    if known {
-        return true;
-    }
-    is_regular(records, base)
+    known || is_regular(records, base)
 }
 
 // A list with an error does not fit, nor does one with a multi-line key. Room for as many events as there are records is wanted, which is as many
@@ -32,7 +30,7 @@ pub fn judge_run(records: &[u8], base: u32, known: bool, answer: Answer, events:
         return answered(false, refusal, place);
     }
     if events.len() / EVENT_WORDS < records.len() / 6 {
-        return answered(false, 7, 0);
+        return answered(false, Refusal::Events as u32, 0);
     }
     let regular = known_or_regular(known, records, base);
     if regular {

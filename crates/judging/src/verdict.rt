@@ -2,7 +2,10 @@
 ghost use Rattle.std.specs.Prelude.{◌≡◌};
 ghost use Rattle.judging.specs.Verdicts.{unjudged};
 
-// Whether the list fits; and if it was not judged, the refusal's number and its place, else 0 and 0.
+use token::refusal::Refusal;
+
+// Whether the list fits; and if it was not judged, the refusal's number and its place, else 0 and 0. The number is what C gets, and what
+// `Judged` speaks of.
 #[derive(Clone, Copy)]
 pub struct Verdict {
     pub fits: bool,
@@ -14,10 +17,7 @@ pub struct Verdict {
 pub fn is_unjudged(refusal: u32) -> bool
     ensures { result ≡ unjudged refusal }
 {
-    if refusal < 7 {
-        return 0 < refusal;
-    }
-    false
+    refusal < Refusal::Events as u32 && 0 < refusal
 }
 
 pub fn answered(fits: bool, refusal: u32, place: usize) -> Verdict

@@ -9,7 +9,7 @@ use key_spaces::opt_whitespace;
 use output::emitting::{Counts, emit, empty_key};
 use rules::event::Event;
 use rules::keys::InKey;
-use token::cursor::{Cursor, Step};
+use token::cursor::Cursor;
 use token::kind::Kind;
 
 // Where the walk over a key ended, the counts there, and whether the key was valid.
@@ -34,8 +34,7 @@ pub fn opt_dot_keys(
     let w = opt_whitespace(s, c, m, events, errors);
     let cur = w.cur;
     let n = w.n;
-    let seen = cur.next_token_if(s, Kind::Dot);
-    let Step::Got(_, _) = seen else {
+    let Some(_) = cur.next_token_if(s, Kind::Dot) else {
         return KeyWalk {
             cur,
             n,
@@ -58,20 +57,16 @@ pub fn dot_keys(s: &[u8], c: Cursor, m: Counts, events: &mut [u32], errors: &mut
     let mut n = m;
     let mut valid = true;
     'dots: loop {
-        let step = cur.next_token_if(s, Kind::Dot);
-        let Step::Got(d, next) = step else {
+        let Some((d, next)) = cur.next_token_if(s, Kind::Dot) else {
             break 'dots;
         };
         cur = next;
         n = emit(events, n, Event::KeySep, d.start, d.end);
         'parts: loop {
-            let one = cur.next(s);
-            let Step::Got(t, past) = one else {
+            let Some((t, past)) = cur.next(s) else {
                 break 'parts;
             };
-            let k = t.kind;
-            let x = in_key(k);
-            match x {
+            match in_key(t.kind) {
                 InKey::Other => {
                     n = empty_key(events, n, t.start);
                     cur = past.back(s);

@@ -11,7 +11,7 @@ ghost use Rattle.key_spaces.specs.Nothing.{nothing_left};
 use backward_search::nearest_before;
 use output::emitting::{Counts, Walk, emit, report};
 use rules::event::Event;
-use token::cursor::{Cursor, Sought, Step};
+use token::cursor::{Cursor, Sought};
 use token::kind::Kind;
 use token::span::Span;
 
@@ -25,8 +25,7 @@ pub fn opt_whitespace(
     requires { Good s.now c }
     ensures { Goes s.now (opt_whitespace (tokens_at s.now c)) c (bufs events.old errors.old m) events.new errors.new result }
 {
-    let step = c.next_token_if(s, Kind::Whitespace);
-    let Step::Got(t, past) = step else {
+    let Some((t, past)) = c.next_token_if(s, Kind::Whitespace) else {
         return Walk { cur: c, n: m };
     };
     let n = emit(events, m, Event::Whitespace, t.start, t.end);

@@ -1,10 +1,9 @@
 -- What holds of the tokens of every text: they lie end to end from the base to the text's end, are at most one more than bytes, and
 -- their records are read again and pass the check. Proved; nothing here needs to be believed.
-use Rattle.std.specs.Prelude.{◌≡◌, refl, Bool, true, false, cond, List, ℕ, ◌+◌, ◌≤◌, ◌<◌, length, drop}
+use Rattle.std.specs.Prelude.{◌≡◌, refl, Bool, true, false, cond, List, ℕ, ◌+◌, ◌≤◌, ◌<◌, length, drop, Ok}
 use Rattle.std.proofs.Common.{ap, sym, ◌∙◌, arith, drop-drop}
 use Rattle.std.proofs.lemmas.Bool.{false≢true}
 use Rattle.std.proofs.Math.ListN.{length-drop}
-use Rattle.token.specs.declared.checked.Checked.{Checked}
 use Rattle.token.specs.Limits.{max_records, max_end}
 use Rattle.token.specs.Tokens.{all_tokens}
 use Rattle.token.specs.Check.{checked}
@@ -63,5 +62,5 @@ module _ (text : List ℕ) where
     text_read = read_back text_laid (omega (arith, text_end_lem, short))
 
     -- and pass the check
-    pub text_passes : length (tokens_of text) ≤ max_records → checked (records_of (tokens_of text)) (base_of text) ≡ Checked.Passed
+    pub text_passes : length (tokens_of text) ≤ max_records → checked (records_of (tokens_of text)) (base_of text) ≡ Ok tt
     text_passes few = pass_back text_laid (omega (arith, text_end_lem, short)) few

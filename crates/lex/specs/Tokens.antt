@@ -1,6 +1,5 @@
 -- What is said of the tokens of every text. Assumes nothing.
-use Rattle.std.specs.Prelude.{◌≡◌, List, ℕ, ◌+◌, ◌≤◌, length}
-use Rattle.token.specs.declared.checked.Checked.{Checked}
+use Rattle.std.specs.Prelude.{◌≡◌, List, ℕ, ◌+◌, ◌≤◌, length, Ok}
 use Rattle.token.specs.Limits.{max_records, max_end}
 use Rattle.token.specs.Tokens.{all_tokens}
 use Rattle.token.specs.Check.{checked}
@@ -17,4 +16,4 @@ pub record TokensEndToEnd (text : List ℕ) : Type 0 where
 -- the records of a text that is not too long stand for its tokens; and if they are not too many, they pass the check of a list
 pub record RecordsReadAgain (text : List ℕ) : Type 0 where
   pub read : length text ≤ max_end → all_tokens (records_of (tokens_of text)) (base_of text) ≡ tokens_of text
-  pub passed : length text ≤ max_end → length (tokens_of text) ≤ max_records → checked (records_of (tokens_of text)) (base_of text) ≡ Checked.Passed
+  pub passed : length text ≤ max_end → length (tokens_of text) ≤ max_records → checked (records_of (tokens_of text)) (base_of text) ≡ Ok tt

@@ -1,23 +1,23 @@
 // From the bytes of a text to its token records.
 #![tactic(auto)]
 
-pub mod refusals;
 pub mod theorems;
 
 ghost use Rattle.std.specs.Prelude.{◌≡◌, cond, true, ◌++◌, ◌+◌, ◌*◌, ◌/◌, ◌≤◌, length, drop, ltb};
 ghost use Rattle.token.specs.Kinds.{number_of};
+ghost use Rattle.token.specs.Refusals.{refusal_number};
 ghost use Rattle.token.specs.Writing.{records_of, put_at};
 ghost use Rattle.scan.specs.Lexer.{tokens_from, base_of};
 ghost use Rattle.lex.specs.Lexed.{LexOutcome, lex_outcome};
 
-use crate::refusals::{NO_ROOM_FOR_TOKENS, NOT_UTF8, TEXT_TOO_LONG};
 use one_token::lexer::process_token;
-use places::is_at;
 use text_records::write;
 use token::checked::MAX_END;
+use token::refusal::Refusal;
 use utf8::valid_up_to;
 
-// A refusal's number or 0, and its place; where the tokens start; and how many records they are, or would be.
+// A refusal's number or 0, and its place; where the tokens start; and how many records they are, or would be. The number is what C gets, and
+// what `lex_outcome` speaks of.
 #[derive(Clone, Copy)]
 pub struct Lexed {
     pub refusal: u32,
@@ -30,17 +30,14 @@ pub struct Lexed {
 fn base_of(text: &[u8]) -> usize
     ensures { result ≡ base_of text.now }
 {
-    if is_at(text, 0, 239) {
-        if is_at(text, 1, 187) {
-            if is_at(text, 2, 191) {
-                return 3;
-            }
-        }
+    if text.starts_with(&[239, 187, 191]) {
+        3
+    } else {
+        0
     }
-    0
 }
 
-// How many tokens there are from `base` on.
+// How many tokens there are from `base` on. A turn goes on to the end of its token.
 fn count(text: &[u8], base: usize) -> usize
     requires { base ≤ length text.now }
     ensures { result ≡ length (tokens_from text.now base) }
@@ -70,11 +67,11 @@ fn beyond_room(text: &[u8], base: usize, room: usize) -> usize
     0
 }
 
-fn refuse(refusal: u32, place: usize, records: usize) -> Lexed
-    ensures { result ≡ record { refusal = refusal; place = place; base = 0; records = records } }
+fn refuse(refusal: Refusal, place: usize, records: usize) -> Lexed
+    ensures { result ≡ record { refusal = refusal_number refusal; place = place; base = 0; records = records } }
 {
     Lexed {
-        refusal,
+        refusal: refusal.number(),
         place,
         base: 0,
         records,
@@ -86,16 +83,16 @@ pub fn lex(text: &[u8], records: &mut [u8]) -> Lexed
     ensures { ◌≡◌ {A = LexOutcome} (record { answer = result; buffer = records.new }) (lex_outcome text.now records.old) }
 {
     if MAX_END < text.len() {
-        return refuse(TEXT_TOO_LONG, MAX_END, 0);
+        return refuse(Refusal::TextTooLong, MAX_END, 0);
     }
     let valid = valid_up_to(text);
     if valid < text.len() {
-        return refuse(NOT_UTF8, valid, 0);
+        return refuse(Refusal::NotUtf8, valid, 0);
     }
     let base = base_of(text);
     let beyond = beyond_room(text, base, records.len() / 6);
     if 0 < beyond {
-        return refuse(NO_ROOM_FOR_TOKENS, 0, beyond);
+        return refuse(Refusal::Tokens, 0, beyond);
     }
     let n = write(text, base, records);
     Lexed {

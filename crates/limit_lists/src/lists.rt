@@ -1,38 +1,28 @@
 // Lists of records, each as short as its kind allows.
+use std::ops::Range;
+use token::kind::Kind;
 
-pub const EQUALS: u8 = 2;
+// The bytes of a record: a length in four bytes and a kind in two, the lowest first.
+const RECORD_BYTES: usize = 6;
 
-pub const LEFT: u8 = 4;
-
-pub const RIGHT: u8 = 5;
-
-pub const ATOM: u8 = 15;
-
-pub const EOF: u8 = 16;
-
-fn length_of(kind: u8) -> u8 {
-    if kind == EOF { 0 } else { 1 }
+fn record_of(kind: u8) -> [u8; RECORD_BYTES] {
+    let length = u8::from(kind != Kind::Eof as u8);
+    [length, 0, 0, 0, kind, 0]
 }
 
-fn set(list: &mut [u8], at: usize, byte: u8) {
-    if at < list.len() {
-        list[at] = byte;
+// Makes the records of these numbers ones of this kind, as far as the list has them. A kind is a number here, since a list may hold one that is none.
+pub fn fill(list: &mut [u8], records: Range<usize>, kind: u8) {
+    let record = record_of(kind);
+    for bytes in list
+        .chunks_exact_mut(RECORD_BYTES)
+        .take(records.end)
+        .skip(records.start)
+    {
+        bytes.copy_from_slice(&record);
     }
 }
 
-// Makes record i one of this kind, if the list has it. The list began as zeros, so its other bytes are right.
+// The same for record i.
 pub fn put(list: &mut [u8], i: usize, kind: u8) {
-    if i < list.len() / 6 {
-        set(list, 6 * i, length_of(kind));
-        set(list, 6 * i + 4, kind);
-    }
-}
-
-// The same for the records from one number to before another.
-pub fn fill(list: &mut [u8], from: usize, to: usize, kind: u8) {
-    let mut i = from;
-    while i < to {
-        put(list, i, kind);
-        i = i + 1;
-    }
+    fill(list, i..i.saturating_add(1), kind)
 }

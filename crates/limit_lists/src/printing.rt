@@ -2,23 +2,11 @@
 use rules::answer::{Answer, EVENT_WORDS};
 use std::io;
 
-fn print_number(rt: &impl Print, n: usize) -> io::Result<()> {
-    print!(rt; " {n}")
-}
-
-fn print_word(rt: &impl Print, n: u32) -> io::Result<()> {
-    print_number(rt, n as usize)
-}
-
 pub fn print_answer(rt: &impl Print, a: Answer) -> io::Result<()> {
-    print!(rt; ": refusal")?;
-    print_word(rt, a.refusal)?;
-    print!(rt; " place")?;
-    print_number(rt, a.place)?;
-    print!(rt; " events")?;
-    print_number(rt, a.events)?;
-    print!(rt; " errors")?;
-    print_number(rt, a.errors)
+    print!(rt;
+        ": refusal {} place {} events {} errors {}",
+        a.refusal, a.place, a.events, a.errors
+    )
 }
 
 // The last of so many events that were stored, as its four words.
@@ -31,13 +19,8 @@ pub fn print_last(rt: &impl Print, events: &[u32], stored: usize) -> io::Result<
     }
     let at = EVENT_WORDS * (stored - 1);
     print!(rt; ", last event")?;
-    print_word(rt, events[at])?;
-    print_word(rt, events[at + 1])?;
-    print_word(rt, events[at + 2])?;
-    print_word(rt, events[at + 3])?;
+    for word in &events[at..at + EVENT_WORDS] {
+        print!(rt; " {word}")?;
+    }
     println!(rt)
-}
-
-pub fn least(a: usize, b: usize) -> usize {
-    if a < b { a } else { b }
 }

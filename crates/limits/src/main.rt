@@ -4,11 +4,12 @@
 
 mod showing;
 
-ghost use Rattle.std.specs.Prelude.{◌*◌, ◌≤◌, length};
+ghost use Rattle.std.specs.Prelude.{◌≤◌};
 
 use crate::showing::{AMPLE, show};
-use limit_lists::lists::{ATOM, EOF, EQUALS, LEFT, RIGHT, fill, put};
+use limit_lists::lists::{fill, put};
 use std::io;
+use token::kind::Kind;
 
 // A key, an equals sign, and so many arrays within one another.
 fn nested_arrays(rt: &impl Print, depth: usize) -> io::Result<()>
@@ -16,31 +17,24 @@ fn nested_arrays(rt: &impl Print, depth: usize) -> io::Result<()>
 {
     print!(rt; "{depth} nested arrays")?;
     let mut list = [0u8; 798];
-    put(&mut list, 0, ATOM);
-    put(&mut list, 1, EQUALS);
-    fill(&mut list, 2, 2 + depth, LEFT);
-    fill(&mut list, 2 + depth, 2 + depth + depth, RIGHT);
-    put(&mut list, 2 + depth + depth, EOF);
-    let size = 6 * (3 + depth + depth);
-    show(rt, &list[0..size], 0, AMPLE)
+    let end = 2 + depth + depth;
+    put(&mut list, 0, Kind::Atom as u8);
+    put(&mut list, 1, Kind::Equals as u8);
+    fill(&mut list, 2..2 + depth, Kind::LeftSquareBracket as u8);
+    fill(&mut list, 2 + depth..end, Kind::RightSquareBracket as u8);
+    put(&mut list, end, Kind::Eof as u8);
+    show(rt, &list[..6 * (end + 1)], 0, AMPLE)
 }
 
 // A key, an equals sign, and Atoms, which are one scalar, up to so many records.
-fn show_records(rt: &impl Print, list: &mut [u8], count: usize) -> io::Result<()>
-    requires { count * 6 ≤ length list.old }
-{
-    print!(rt; "{count} records")?;
-    fill(list, 0, count, ATOM);
-    put(list, 1, EQUALS);
-    let size = count * 6;
-    show(rt, &list[0..size], 0, AMPLE)
-}
-
 fn many_records(rt: &impl Print, count: usize) -> io::Result<()>
     requires { count ≤ 65537 }
 {
+    print!(rt; "{count} records")?;
     let mut list = [0u8; 393222];
-    show_records(rt, &mut list, count)
+    fill(&mut list, 0..count, Kind::Atom as u8);
+    put(&mut list, 1, Kind::Equals as u8);
+    show(rt, &list[..6 * count], 0, AMPLE)
 }
 
 // A pair, which has three events, in a buffer of so many words.
@@ -49,9 +43,9 @@ fn pair_in(rt: &impl Print, room: usize) -> io::Result<()>
 {
     print!(rt; "three events in {room} words")?;
     let mut list = [0u8; 24];
-    fill(&mut list, 0, 3, ATOM);
-    put(&mut list, 1, EQUALS);
-    put(&mut list, 3, EOF);
+    fill(&mut list, 0..3, Kind::Atom as u8);
+    put(&mut list, 1, Kind::Equals as u8);
+    put(&mut list, 3, Kind::Eof as u8);
     show(rt, &list, 0, room)
 }
 
@@ -70,6 +64,6 @@ fn main(rt: HostRuntime) -> io::Result<()> {
     many_records(&rt, 65537)?;
     pair_in(&rt, 12)?;
     pair_in(&rt, 8)?;
-    at_the_top(&rt, EOF)?;
-    at_the_top(&rt, ATOM)
+    at_the_top(&rt, Kind::Eof as u8)?;
+    at_the_top(&rt, Kind::Atom as u8)
 }

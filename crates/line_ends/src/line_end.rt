@@ -11,7 +11,7 @@ use output::message::UNEXPECTED_KEY_OR_VALUE;
 use rules::event::Event;
 use rules::skipping::InLine;
 use skip_lines::skipping::{ignore_to_newline, on_comment};
-use token::cursor::{Cursor, Seen, Step};
+use token::cursor::Cursor;
 use token::kind::Kind;
 
 // Whitespace, then a comment, a newline or the end; anything else is reported and the line is skipped.
@@ -25,8 +25,7 @@ pub fn ws_comment_newline(
     requires { Good s.now c }
     ensures { Goes s.now (ws_comment_newline (tokens_at s.now c)) c (bufs events.old errors.old m) events.new errors.new result }
 {
-    let seen = c.peek(s);
-    let Seen::Token(first) = seen else {
+    let Some(first) = c.peek(s) else {
         return Walk { cur: c, n: m };
     };
     line_ending(s, c, m, first.start, events, errors)
@@ -44,8 +43,7 @@ pub fn usual_line_end(
     requires { Good s.now c }
     ensures { Goes s.now (ws_comment_newline (tokens_at s.now c)) c (bufs events.old errors.old m) events.new errors.new result }
 {
-    let step = c.next_token_if(s, Kind::Newline);
-    let Step::Got(t, past) = step else {
+    let Some((t, past)) = c.next_token_if(s, Kind::Newline) else {
         let list = s;
         let from = c;
         let sofar = m;
@@ -69,15 +67,9 @@ fn line_ending(
 {
     let mut cur = c;
     let mut n = m;
-    loop {
-        let step = cur.next(s);
-        let Step::Got(t, past) = step else {
-            return Walk { cur, n };
-        };
+    while let Some((t, past)) = cur.next(s) {
         cur = past;
-        let k = t.kind;
-        let x = in_line(k);
-        match x {
+        match in_line(t.kind) {
             InLine::Other => {
                 n = report(
                     errors,
@@ -107,4 +99,5 @@ fn line_ending(
             }
         }
     }
+    Walk { cur, n }
 }

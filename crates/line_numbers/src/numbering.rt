@@ -7,7 +7,7 @@ ghost use Rattle.token.specs.Records.{count, start_at};
 ghost use Rattle.token.specs.Tokens.{all_tokens};
 ghost use Rattle.rules.specs.Answer.{error_size};
 ghost use Rattle.rules.specs.Words.{first_sought};
-ghost use Rattle.line_numbers.specs.Numbering.{numbered, numbered_first};
+ghost use Rattle.line_numbers.specs.Numbering.{numbered};
 ghost use Rattle.line_points.specs.Points.{Counted};
 ghost use Rattle.blamed_commas.specs.Commas.{Known};
 ghost use Rattle.line_numbers.specs.Placing.{Places};
@@ -51,7 +51,7 @@ fn place_of(
 ) -> Placed
     requires counted { Counted s.now p.cur.base p }
     requires known { Known s.now p.cur.base known }
-    requires s_bound { count s.now ≤ max_records }
+    requires few_records { count s.now ≤ max_records }
     ensures { Places s.now p.cur.base mode start end mark result }
 {
     if mark == 0 {
@@ -86,18 +86,17 @@ fn place_of(
     }
 }
 
-// The first n errors.
-fn number_first(s: &[u8], base: u32, mode: Mode, n: usize, errors: &mut [u32])
-    requires s_bound { start_at s.now base (count s.now) ≤ max_end }
+// The n errors of a walk: as many as are in the buffer.
+pub fn number_errors(s: &[u8], base: u32, mode: Mode, n: usize, errors: &mut [u32])
+    requires text_ends { start_at s.now base (count s.now) ≤ max_end }
     requires laid { Laid base (all_tokens s.now base) }
-    requires s_bound_2 { count s.now ≤ max_records }
-    requires error_size_in_bounds { n * error_size ≤ length errors.old }
-    ensures { errors.new ≡ numbered_first mode (all_tokens s.now base) n errors.old }
+    requires few_records { count s.now ≤ max_records }
+    ensures { errors.new ≡ numbered mode (all_tokens s.now base) n errors.old }
 {
+    let stored = n.min(errors.len() / ERROR_WORDS);
     let mut point = first_line(base);
     let mut comma = no_comma();
-    let mut i = 0;
-    while i < n {
+    for i in 0..stored {
         let b = i * ERROR_WORDS;
         let start = errors[b + 4];
         let end = errors[b + 5];
@@ -108,21 +107,5 @@ fn number_first(s: &[u8], base: u32, mode: Mode, n: usize, errors: &mut [u32])
         errors[b + 6] = u.line;
         point = u.point;
         comma = u.comma;
-        i += 1;
     }
-}
-
-// The n errors of a walk: as many as are in the buffer.
-pub fn number_errors(s: &[u8], base: u32, mode: Mode, n: usize, errors: &mut [u32])
-    requires s_bound { start_at s.now base (count s.now) ≤ max_end }
-    requires laid { Laid base (all_tokens s.now base) }
-    requires s_bound_2 { count s.now ≤ max_records }
-    ensures { errors.new ≡ numbered mode (all_tokens s.now base) n errors.old }
-{
-    let room = errors.len() / ERROR_WORDS;
-    let mut stored = n;
-    if room < n {
-        stored = room;
-    }
-    number_first(s, base, mode, stored, errors);
 }

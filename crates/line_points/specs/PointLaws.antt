@@ -54,10 +54,6 @@ counted_again {s} {base} {p} q x b = counted_begun s base q (subst (λ (i : ℕ)
 pub toward_begun : {s : List ℕ} {base : ℕ} {p : LinePoint} (at : ℕ) (q : LinePoint) → Counted s base p → Begins base q → Toward s base at q
 toward_begun {s} {base} at q x b = record { point = counted_again q x b; here = start_here s base at q b }
 
--- a point that does not lie behind the place
-pub toward_point : {s : List ℕ} {base : ℕ} {p : LinePoint} (at : ℕ) → Counted s base p → p.cur.place ≤ at → Toward s base at p
-toward_point at x h = record { point = x; here = x.counted at h }
-
 -- a list has no more tokens than it has
 take_all : (ts : List Tok) (n : ℕ) → length ts ≤ n → take n ts ≡ ts
 take_all [] zero h = refl
@@ -122,19 +118,12 @@ abbrev first_kind : List Tok → Kind
 first_kind [] = Kind.Eof
 first_kind (tok k a b ∷ ts) = k
 
-abbrev first_start : List Tok → ℕ
-first_start [] = 0
-first_start (tok k a b ∷ ts) = a
-
 module _ {s : List ℕ} {c d : Cursor} {t : Token} (g : Good s c) (k : Took s c t d) where
   itself : tokens_at s c ≡ tok (kind_at s c.at) c.place (c.place + length_at s c.at) ∷ tokens_at s (record { base = c.base; at = c.at + 1; place = c.place + length_at s c.at })
   itself = (took s c (length_at s c.at) (kind_at s c.at) g k.left refl refl).seen
 
   pub took_kind : kind_at s c.at ≡ t.kind
   took_kind = ap first_kind (sym itself ∙ k.seen)
-
-  pub took_start : c.place ≡ t.start
-  took_start = ap first_start (sym itself ∙ k.seen)
 
 -- tokens that lie end to end: the first, and the others
 first_spans : {p : ℕ} {kind : Kind} {a b : ℕ} {ts : List Tok} → Laid p (tok kind a b ∷ ts) → Spans (width_of kind) a b × Laid b ts
@@ -181,19 +170,9 @@ module _ {s : List ℕ} {base at : ℕ} {c d : Cursor} {line : ℕ} {t : Token} 
   pub toward_behind : at < t.end → Numbered s base at (record { cur = c; line = line })
   toward_behind h = record { point = x.point; line = sym (x.here ∙ ap (λ (n : ℕ). line + n) (first_behind s c d t at x.point.good k h) ∙ add-zero line) }
 
--- no token is left
-pub toward_end : {s : List ℕ} {base at : ℕ} {c : Cursor} {line : ℕ} → Toward s base at (record { cur = c; line = line }) → tokens_at s c ≡ [] → Numbered s base at (record { cur = c; line = line })
-toward_end {at = at} {line = line} x e = record { point = x.point; line = sym (x.here ∙ ap (λ (ts : List Tok). line + newlines_by at ts) e ∙ add-zero line) }
-
 -- the base of a list is that of every point of it
 pub counted_own : {s : List ℕ} {base : ℕ} {p : LinePoint} → Counted s base p → Counted s p.cur.base p
 counted_own {s} {p = p} x = subst (λ (b : ℕ). Counted s b p) (sym x.based) x
-
-pub toward_own : {s : List ℕ} {base at : ℕ} {p : LinePoint} → Toward s base at p → Toward s p.cur.base at p
-toward_own {s} {base} {at} {p} x = subst (λ (b : ℕ). Toward s b at p) (sym x.point.based) x
-
-pub numbered_of : {s : List ℕ} {a base at : ℕ} {p : LinePoint} → a ≡ base → Numbered s a at p → Numbered s base at p
-numbered_of {s} {at = at} {p} e x = subst (λ (b : ℕ). Numbered s b at p) e x
 
 -- toward a record: a counted point that is not past it
 pub record Before (s : List ℕ) (base past : ℕ) (p : LinePoint) : Type 0 where
@@ -203,18 +182,6 @@ pub record Before (s : List ℕ) (base past : ℕ) (p : LinePoint) : Type 0 wher
 pub before_on : {s : List ℕ} {base past : ℕ} {c d : Cursor} {line : ℕ} {t : Token} → Before s base past (record { cur = c; line = line }) → Took s c t d → c.at < past → (n : ℕ) → n ≡ newlines t.kind
     → Before s base past (record { cur = d; line = line + n })
 before_on x k h n e = record { point = counted_on x.point k n e; low = omega (arith, k.on, h) }
-
--- the record is reached
-pub reached_here : {s : List ℕ} {base past : ℕ} {p : LinePoint} → Before s base past p → past ≤ p.cur.at → Reached s base past p
-reached_here {s} {base} {past} {p} x h =
-    let e : past ≡ p.cur.at = omega (arith, x.low, h) in
-    record { point = x.point; same = λ first start. ap (λ (i : ℕ). comma_between (all_tokens s base) first i start) e }
-
-pub before_own : {s : List ℕ} {base past : ℕ} {p : LinePoint} → Counted s base p × (p.cur.at ≤ past) → Before s p.cur.base past p
-before_own x = record { point = counted_own x.0; low = x.1 }
-
-pub reached_of : {s : List ℕ} {a base past : ℕ} {p : LinePoint} → a ≡ base → Reached s a past p → Reached s base past p
-reached_of {s} {past = past} {p} e x = subst (λ (b : ℕ). Reached s b past p) e x
 
 -- no token is left, so the record is beyond the list
 pub reached_end : {s : List ℕ} {base past : ℕ} {p : LinePoint} → Before s base past p → tokens_at s p.cur ≡ [] → Reached s base past p

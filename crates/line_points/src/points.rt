@@ -5,8 +5,8 @@ ghost use Rattle.token.specs.Records.{count};
 ghost use Rattle.rules.specs.Lines.{newlines};
 ghost use Rattle.line_points.specs.Points.{Begins, Counted, Numbered, Reached, Toward};
 
-use token::cursor::{Cursor, Step};
-use token::kind::{Kind, number_of};
+use token::cursor::Cursor;
+use token::kind::Kind;
 
 // A place in the list; and its line, one more than there are Newline tokens before it.
 #[derive(Clone, Copy)]
@@ -28,10 +28,7 @@ pub fn first_line(base: u32) -> LinePoint
 pub fn newlines(kind: Kind) -> u32
     ensures { result ≡ newlines kind }
 {
-    if number_of(kind) == number_of(Kind::Newline) {
-        return 1;
-    }
-    0
+    if kind == Kind::Newline { 1 } else { 0 }
 }
 
 // The point itself, or the start where the point lies behind the place.
@@ -39,35 +36,31 @@ fn not_behind(s: &[u8], p: LinePoint, at: u32) -> LinePoint
     requires { Counted s.now p.cur.base p }
     ensures { Toward s.now p.cur.base at result }
 {
-    let cur = p.cur;
-    if at < cur.place {
-        return first_line(cur.base);
+    if at < p.cur.place {
+        first_line(p.cur.base)
+    } else {
+        p
     }
-    p
 }
 
 // The point of a place, on from another: past every token that ends at or before the place.
+#[tactic(auto, using(crate::specs::PointLaws::line_fits, crate::specs::PointLaws::toward_behind))]
 pub fn line_from(s: &[u8], p: LinePoint, at: u32) -> LinePoint
     requires counted { Counted s.now p.cur.base p }
-    requires s_bound { count s.now ≤ max_records }
+    requires few_records { count s.now ≤ max_records }
     ensures { Numbered s.now p.cur.base at result }
 {
-    let begun = not_behind(s, p, at);
-    let mut cur = begun.cur;
-    let mut line = begun.line;
-    loop {
-        let step = cur.next(s);
-        let Step::Got(t, past) = step else {
-            return LinePoint { cur, line };
-        };
-        let end = t.end;
-        if at < end {
-            return LinePoint { cur, line };
+    let mut point = not_behind(s, p, at);
+    while let Some((t, past)) = point.cur.next(s) {
+        if at < t.end {
+            break;
         }
-        let k = t.kind;
-        line += newlines(k);
-        cur = past;
+        point = LinePoint {
+            cur: past,
+            line: point.line + newlines(t.kind),
+        };
     }
+    point
 }
 
 // The point itself, or the start where the point lies behind the record.
@@ -75,33 +68,29 @@ fn not_past(s: &[u8], p: LinePoint, upto: usize) -> LinePoint
     requires { Counted s.now p.cur.base p }
     ensures { Counted s.now p.cur.base result × (result.cur.at ≤ upto) }
 {
-    let cur = p.cur;
-    if upto < cur.at {
-        return first_line(cur.base);
+    if upto < p.cur.at {
+        first_line(p.cur.base)
+    } else {
+        p
     }
-    p
 }
 
 // The point of a record, on from another; the end of the list, where the record is beyond it.
+#[tactic(auto, using(crate::specs::PointLaws::line_fits))]
 pub fn point_from(s: &[u8], p: LinePoint, upto: usize) -> LinePoint
     requires counted { Counted s.now p.cur.base p }
-    requires s_bound { count s.now ≤ max_records }
+    requires few_records { count s.now ≤ max_records }
     ensures { Reached s.now p.cur.base upto result }
 {
-    let begun = not_past(s, p, upto);
-    let mut cur = begun.cur;
-    let mut line = begun.line;
-    loop {
-        let at = cur.at;
-        if upto <= at {
-            return LinePoint { cur, line };
-        }
-        let step = cur.next(s);
-        let Step::Got(t, past) = step else {
-            return LinePoint { cur, line };
+    let mut point = not_past(s, p, upto);
+    while point.cur.at < upto {
+        let Some((t, past)) = point.cur.next(s) else {
+            break;
         };
-        let k = t.kind;
-        line += newlines(k);
-        cur = past;
+        point = LinePoint {
+            cur: past,
+            line: point.line + newlines(t.kind),
+        };
     }
+    point
 }

@@ -7,13 +7,12 @@ ghost use Rattle.output.specs.Pour.{bufs};
 ghost use Rattle.output.specs.Walks.{Goes};
 ghost use Rattle.list_ends.specs.Leftover.{unexpected};
 
-use classes::skipping::in_line;
 use output::emitting::{Counts, Walk, emit, report_before};
 use output::expected::NOTHING;
 use output::message::UNEXPECTED_CONTENT;
 use rules::event::Event;
-use rules::skipping::InLine;
-use token::cursor::{Cursor, Step, Token};
+use token::cursor::{Cursor, Token};
+use token::kind::Kind;
 
 // What is left behind the end: each token but Eof an error event.
 fn errors_to_end(s: &[u8], c: Cursor, m: Counts, events: &mut [u32], errors: &mut [u32]) -> Walk
@@ -22,21 +21,13 @@ fn errors_to_end(s: &[u8], c: Cursor, m: Counts, events: &mut [u32], errors: &mu
 {
     let mut cur = c;
     let mut n = m;
-    loop {
-        let step = cur.next(s);
-        let Step::Got(t, past) = step else {
-            return Walk { cur, n };
-        };
-        cur = past;
-        let k = t.kind;
-        let x = in_line(k);
-        match x {
-            InLine::Eof => {}
-            _ => {
-                n = emit(events, n, Event::Error, t.start, t.end);
-            }
+    while let Some((t, past)) = cur.next(s) {
+        if t.kind != Kind::Eof {
+            n = emit(events, n, Event::Error, t.start, t.end);
         }
+        cur = past;
     }
+    Walk { cur, n }
 }
 
 // Content behind the end: the token t.
@@ -53,14 +44,12 @@ pub fn eof(s: &[u8], c: Cursor, m: Counts, events: &mut [u32], errors: &mut [u32
     requires { Good s.now c }
     ensures { Goes s.now (eof (tokens_at s.now c)) c (bufs events.old errors.old m) events.new errors.new result }
 {
-    let step = c.next(s);
-    let Step::Got(t, past) = step else {
+    let Some((t, past)) = c.next(s) else {
         return Walk { cur: c, n: m };
     };
-    let k = t.kind;
-    let x = in_line(k);
-    match x {
-        InLine::Eof => Walk { cur: past, n: m },
-        _ => content(s, t, past, m, events, errors),
+    if t.kind == Kind::Eof {
+        Walk { cur: past, n: m }
+    } else {
+        content(s, t, past, m, events, errors)
     }
 }

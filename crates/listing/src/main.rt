@@ -21,50 +21,26 @@ const EVENT_ROOM: usize = 1600 * EVENT_WORDS;
 const ERROR_ROOM: usize = 512 * ERROR_WORDS;
 
 // Lists the records s.
+#[tactic(auto, using(listing_lines::proofs::RoomLaws::printable))]
 fn list(rt: &impl Print, s: &[u8]) -> io::Result<()>
     requires { length s.now ≤ 3072 }
 {
-    let mut events = [0u32; EVENT_ROOM];
-    let mut errors = [0u32; ERROR_ROOM];
+    let mut events = [0; EVENT_ROOM];
+    let mut errors = [0; ERROR_ROOM];
     let options = Options { mode: Mode::Crate };
     let answer = parse_document(s, 0, options, &mut events, &mut errors);
     print_outcome(rt, answer, &events, &errors)
 }
 
-// Reads until `buffer` is full, the input ends or a read fails, and answers how many bytes came.
-fn read_full(input: &mut impl Read, buffer: &mut [u8]) -> usize
-    ensures { result ≤ length buffer.new }
-{
-    let mut done = 0;
-    while done < buffer.len() {
-        match input.read(&mut buffer[done..]) {
-            Ok(0) | Err(_) => return done,
-            Ok(n) => done += n,
-        }
-    }
-    done
-}
-
-// Whether the input has come to its end. `read_full` stops there, and where a read fails: only one more read, which gives nothing and does not
-// fail, tells that all of the input was read.
-fn at_end(input: &mut impl Read) -> bool {
-    let mut beyond = [0u8; 1];
-    match input.read(&mut beyond) {
-        Ok(n) => n == 0,
-        Err(_) => false,
-    }
-}
-
 // One byte more than the most is asked for, so that longer input shows.
 fn main(rt: HostRuntime) -> io::Result<()> {
-    let mut stdin = rt.stdin();
-    let mut input = [0u8; 3073];
-    let n = read_full(&mut stdin, &mut input);
-    if n > MOST {
+    let mut input = Vec::new(rt.alloc());
+    let read = rt.stdin().take(MOST as u64 + 1).read_to_end(&mut input);
+    if read.is_err() {
+        return eprintln!(rt; "listing: standard input cannot be read");
+    }
+    if input.len() > MOST {
         return println!(rt; "input too long");
     }
-    if at_end(&mut stdin) {
-        return list(&rt, &input[..n]);
-    }
-    eprintln!(rt; "listing: standard input cannot be read")
+    list(&rt, &input)
 }

@@ -9,10 +9,10 @@ use native.Mathlib.Omega.{arith}
 use lib.ListN.{length, get_or}
 use lib.Dec.{ltb}
 use borrow.Author.Tests.{ltb-false}
-use Rattle.token.specs.declared.checked.Checked.{Checked}
+use Rattle.std.specs.Prelude.{Ok, Err}
 use Rattle.token.specs.Records.{count}
 use Rattle.token.specs.Tokens.{Tok, all_tokens}
-use Rattle.token.specs.Check.{checked}
+use Rattle.token.specs.Check.{checked, Checked}
 use Rattle.rules.specs.declared.answer.Answer.{Answer}
 use Rattle.rules.specs.declared.event.Event.{Event}
 use Rattle.rules.specs.Out.{Item, event, event_after, report, trailing_comma, stop}
@@ -83,8 +83,8 @@ walked_fits mode all is events errors q =
     (ltb-false _ _ f.0, ltb-false _ _ f.1, filled_named all is events (ltb-false _ _ f.0))
 
 by_check : (k : Checked) (options : Options) (entry : Entry) (s : List ℕ) (base : ℕ) (events errors : List ℕ) → Fits (length events / event_size) (length errors / error_size) (outcome_by k options entry s base events errors)
-by_check (Checked.Refused r place) options entry s base events errors q = (omega arith, omega arith, λ i l. let f : ⊥ = omega (arith, l) in absurd f)
-by_check Checked.Passed options entry s base events errors q = walked_fits options.mode (all_tokens s base) (parse entry (all_tokens s base)).items events errors q
+by_check (Err r) options entry s base events errors q = (omega arith, omega arith, λ i l. let f : ⊥ = omega (arith, l) in absurd f)
+by_check (Ok u) options entry s base events errors q = walked_fits options.mode (all_tokens s base) (parse entry (all_tokens s base)).items events errors q
 
 outcome_fits : (options : Options) (entry : Entry) (s : List ℕ) (base : ℕ) (events errors : List ℕ) → Fits (length events / event_size) (length errors / error_size) (outcome options entry s base events errors)
 unfolding outcome

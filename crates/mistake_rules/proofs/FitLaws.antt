@@ -9,11 +9,11 @@ use lib.ListN.{length, get_or}
 use lib.Dec.{eqb}
 use borrow.Author.Tests.{eqb-true, eq-eqb, ltb-false}
 use Rattle.token.specs.declared.kind.Kind.{Kind}
-use Rattle.token.specs.declared.checked.Checked.{Checked}
+use Rattle.std.specs.Prelude.{Ok, Err}
 use Rattle.token.specs.Records.{count}
 use Rattle.token.specs.Tokens.{Tok, all_tokens}
-use Rattle.token.specs.Check.{checked}
-use Rattle.token.specs.CheckLaws.{refused_number}
+use Rattle.token.specs.Check.{checked, Checked}
+use Rattle.token.specs.CheckLaws.{refusal_numbered}
 use Rattle.rules.specs.Limits.{max_depth}
 use Rattle.rules.specs.declared.event.Event.{Event}
 use Rattle.rules.specs.declared.options.Options.{Options}
@@ -123,16 +123,16 @@ module _ (options : Options) (s : List ℕ) (base : ℕ) (events errors : List �
   abbrev items : List Item
   items = (parse_document tokens).items
 
-  passed_by_lem : (c : Checked) → checked s base ≡ c → (outcome_by c options document_entry s base events errors).answer.refusal ≡ 0 → checked s base ≡ Checked.Passed
-  passed_by_lem Checked.Passed h z = h
-  passed_by_lem (Checked.Refused r i) h z = absurd (refused_number s base r i h z)
+  passed_by_lem : (c : Checked) → checked s base ≡ c → (outcome_by c options document_entry s base events errors).answer.refusal ≡ 0 → checked s base ≡ Ok tt
+  passed_by_lem (Ok u) h z = h
+  passed_by_lem (Err r) h z = absurd (refusal_numbered r.refusal z)
 
-  pub run_passed : run.answer.refusal ≡ 0 → checked s base ≡ Checked.Passed
+  pub run_passed : run.answer.refusal ≡ 0 → checked s base ≡ Ok tt
   unfolding outcome
   run_passed z = passed_by_lem (checked s base) refl z
 
   -- then the buffers hold its events and its errors
-  held_run : checked s base ≡ Checked.Passed → run.answer.refusal ≡ 0
+  held_run : checked s base ≡ Ok tt → run.answer.refusal ≡ 0
       → (run.answer.events ≤ length run.events / event_size) × (run.answer.errors ≤ length run.errors / error_size)
   unfolding walked
   held_run p z =

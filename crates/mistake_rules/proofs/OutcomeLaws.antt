@@ -7,9 +7,11 @@ use Prim.Native.Nat.{ℕ, ◌/◌, ◌<◌, ◌≤◌}
 use lib.ListN.{length}
 use lib.Dec.{ltb}
 use borrow.Author.Tests.{ltb-true, lt-ltb, le-ltb, eq-eqb, ne_eqb}
-use Rattle.token.specs.declared.checked.Checked.{Checked}
+use Rattle.std.specs.Prelude.{Ok, Err}
+use Rattle.token.specs.declared.checked.Refused.{Refused}
+use Rattle.token.specs.Refusals.{refusal_number}
 use Rattle.token.specs.Tokens.{Tok, all_tokens}
-use Rattle.token.specs.Check.{checked}
+use Rattle.token.specs.Check.{checked, Checked}
 use Rattle.token.specs.Limits.{max_end}
 use Rattle.token.specs.Records.{count, start_at}
 use Rattle.token.specs.CheckLaws.{checked_passes, passed_good}
@@ -20,7 +22,7 @@ use Rattle.mistake_rules.specs.Sheets.{Sheet}
 use Rattle.mistake_rules.specs.Outcome.{no_room_for_mistakes, Listing, unlisted, listed, listed_held, listed_by, listing, ListingDetermined}
 
 -- the text of a list that passes the check ends within the limit
-pub passed_end : (s : List ℕ) (base : ℕ) → checked s base ≡ Checked.Passed → start_at s base (count s) ≤ max_end
+pub passed_end : (s : List ℕ) (base : ℕ) → checked s base ≡ Ok tt → start_at s base (count s) ≤ max_end
 passed_end s base p = (passed_good s base (record { at = 0; place = base; base = base }) (checked_passes s base p) (record { base = refl; at = refl; place = refl })).most
 
 -- an answer without a list
@@ -119,12 +121,12 @@ module _ (s : List ℕ) (base : ℕ) (run : Outcome) (buffer : List ℕ) where
   run_refused h = ap (λ (t : Bool). judged_by t (checked s base)) (sym (ne_eqb _ 0 h))
 
   -- records that are
-  pub records_refused : (number place : ℕ) → run.answer.refusal ≡ 0 → checked s base ≡ Checked.Refused number place → unlisted number place buffer ≡ listing s base run buffer
+  pub records_refused : (r : Refused) → run.answer.refusal ≡ 0 → checked s base ≡ Err r → unlisted (refusal_number r.refusal) r.place buffer ≡ listing s base run buffer
   unfolding listing
-  records_refused number place h e = ap₂ judged_by (sym (eq-eqb _ 0 h)) (sym e)
+  records_refused r h e = ap₂ judged_by (sym (eq-eqb _ 0 h)) (sym e)
 
   -- or not
-  pub records_passed : run.answer.refusal ≡ 0 → checked s base ≡ Checked.Passed → listed_held (all_tokens s base) run buffer ≡ listing s base run buffer
+  pub records_passed : run.answer.refusal ≡ 0 → checked s base ≡ Ok tt → listed_held (all_tokens s base) run buffer ≡ listing s base run buffer
   unfolding listing
   records_passed h e = ap₂ judged_by (sym (eq-eqb _ 0 h)) (sym e)
 

@@ -1,8 +1,8 @@
 -- What `mistakes` answers, and what it leaves in the buffer. Assumes nothing.
-use Rattle.std.specs.Prelude.{ℕ, ◌/◌, ◌≡◌, cond, List, length, eqb, ltb}
-use Rattle.token.specs.declared.checked.Checked.{Checked}
+use Rattle.std.specs.Prelude.{ℕ, ◌/◌, ◌≡◌, cond, List, length, eqb, ltb, Ok, Err}
+use Rattle.token.specs.Refusals.{refusal_number}
 use Rattle.token.specs.Tokens.{Tok, all_tokens}
-use Rattle.token.specs.Check.{checked}
+use Rattle.token.specs.Check.{checked, Checked}
 use Rattle.rules.specs.Answer.{event_size, error_size, Outcome, filled}
 use Rattle.mistake_rules.specs.declared.answer.Listed.{Listed}
 use Rattle.mistake_rules.specs.Mistakes.{Mistake, mistakes_in, all_words}
@@ -37,8 +37,8 @@ listed_held all run buffer =
 
 -- 1 to 5, of the records: the answer is not of this list
 abbrev pub listed_by : Checked → List Tok → Outcome → List ℕ → Listing
-listed_by (Checked.Refused refusal place) all run buffer = unlisted refusal place buffer
-listed_by Checked.Passed all run buffer = listed_held all run buffer
+listed_by (Err r) all run buffer = unlisted (refusal_number r.refusal) r.place buffer
+listed_by (Ok u) all run buffer = listed_held all run buffer
 
 -- `mistakes` on the record bytes s, the base, an answer with the events and errors that are said to be its own, and a buffer. A run that was
 -- refused keeps its refusal and place

@@ -1,5 +1,5 @@
 // Mistakes into the lent buffer. What does not fit is counted and not written.
-ghost use Rattle.std.specs.Prelude.{◌≡◌, ◌∷◌, [], ◌+◌, ◌-◌, ◌*◌, ◌≤◌, length};
+ghost use Rattle.std.specs.Prelude.{◌≡◌, ◌+◌, ◌-◌, ◌*◌, ◌≤◌, length};
 ghost use Rattle.rules.specs.Answer.{error_size};
 ghost use Rattle.mistake_rules.specs.Mistakes.{error_at};
 ghost use Rattle.mistake_rules.specs.Sheets.{put_at, put_all};
@@ -8,28 +8,12 @@ ghost use Rattle.mistake_steps.specs.Steps.{countless, errors_left};
 use rules::answer::ERROR_WORDS;
 
 // Mistake k: message, expected, the context from..to, the unexpected start..end, the line.
-pub fn put_mistake(
-    mistakes: &mut [u32],
-    k: usize,
-    message: u32,
-    expected: u32,
-    from: u32,
-    to: u32,
-    start: u32,
-    end: u32,
-    line: u32,
-)
-    ensures { mistakes.new ≡ put_at k (message ∷ expected ∷ «from» ∷ to ∷ start ∷ end ∷ line ∷ []) mistakes.old }
+pub fn put_mistake(mistakes: &mut [u32], k: usize, words: [u32; ERROR_WORDS])
+    ensures { mistakes.new ≡ put_at k words mistakes.old }
 {
     if k < mistakes.len() / ERROR_WORDS {
         let b = k * ERROR_WORDS;
-        mistakes[b] = message;
-        mistakes[b + 1] = expected;
-        mistakes[b + 2] = from;
-        mistakes[b + 3] = to;
-        mistakes[b + 4] = start;
-        mistakes[b + 5] = end;
-        mistakes[b + 6] = line;
+        mistakes[b..b + ERROR_WORDS].copy_from_slice(&words);
     }
 }
 
@@ -39,9 +23,7 @@ fn put_record(mistakes: &mut [u32], k: usize, errors: &[u32], i: usize)
     ensures { mistakes.new ≡ put_at k (error_at i errors.now) mistakes.old }
 {
     let b = i * ERROR_WORDS;
-    put_mistake(
-        mistakes,
-        k,
+    let words = [
         errors[b],
         errors[b + 1],
         errors[b + 2],
@@ -49,7 +31,8 @@ fn put_record(mistakes: &mut [u32], k: usize, errors: &[u32], i: usize)
         errors[b + 4],
         errors[b + 5],
         errors[b + 6],
-    );
+    ];
+    put_mistake(mistakes, k, words);
 }
 
 // The error records from r up to j, from mistake k on.
@@ -59,11 +42,7 @@ pub fn put_records(mistakes: &mut [u32], k: usize, errors: &[u32], r: usize, j: 
     requires j_bound { k + j ≤ countless }
     ensures { record { count = k + (j - r); buffer = mistakes.new } ≡ put_all (errors_left j r errors.now) (record { count = k; buffer = mistakes.old }) }
 {
-    let mut i = r;
-    let mut count = k;
-    while i < j {
-        put_record(mistakes, count, errors, i);
-        count += 1;
-        i += 1;
+    for i in r..j {
+        put_record(mistakes, k + (i - r), errors, i);
     }
 }

@@ -1,2 +1,3 @@
 pub mod SheetLaws
 pub mod ListingLaws
+pub mod TakenLaws

@@ -12,13 +12,13 @@ use Rattle.line_points.specs.declared.points.LinePoint.{LinePoint}
 use Rattle.line_points.specs.Points.{Counted, Numbered}
 use Rattle.filling.specs.FillLaws.{Sized}
 use Rattle.pieces.specs.declared.pieces.Piece.{Piece}
-use Rattle.pieces.specs.declared.pieces.Found.{Found}
+use Rattle.std.specs.Prelude.{Some, None}
 use Rattle.mistakes.specs.declared.listing.Noted.{Noted}
 use Rattle.pieces.specs.Messages.{expected_by}
 use Rattle.pieces.specs.Pieces.{events_from, pieces}
 use Rattle.mistake_rules.specs.Mistakes.{errors_from, start_of, Mistake, reported, silent, goes_before, accounts_for, judged, placed, all_reported, merged, mistakes_in, words_of, all_words}
 use Rattle.mistake_rules.specs.Sheets.{Sheet, put_at, put_all}
-use Rattle.pieces.specs.Finding.{events_left, Finds, first, none}
+use Rattle.pieces.specs.Finding.{events_left, Finds}
 use Rattle.mistake_steps.specs.Steps.{errors_left, accounted, Passes}
 use Rattle.mistakes.specs.Notes.{Notes}
 use Rattle.mistake_steps.proofs.RecordLaws.{judged_told, judged_silent}
@@ -82,30 +82,17 @@ listing_begun s base n events m errors before point q =
       kept = refl;
     }
 
-found_first : {n : ℕ} {events : List ℕ} {i : ℕ} {f : Found} {p : Piece} {next : ℕ} → Finds n events i f → f ≡ Found.Piece p next
-    → (pieces (events_left n i events) false ≡ p ∷ pieces (events_left n next events) false) × (i < next) × (next ≤ n)
-found_first {n} {events} {i} {f} {p} {next} x e = by (subst (λ (g : Found). Finds n events i g) e x)
-  where
-    by : Finds n events i (Found.Piece p next) → (pieces (events_left n i events) false ≡ p ∷ pieces (events_left n next events) false) × (i < next) × (next ≤ n)
-    by (first q l h) = (q, l, h)
-
-found_no : {n : ℕ} {events : List ℕ} {i : ℕ} {f : Found} → Finds n events i f → f ≡ Found.Nothing → pieces (events_left n i events) false ≡ []
-found_no {n} {events} {i} {f} x e = by (subst (λ (g : Found). Finds n events i g) e x)
-  where
-    by : Finds n events i Found.Nothing → pieces (events_left n i events) false ≡ []
-    by (none q) = q
-
 module _ {s : List ℕ} {base n : ℕ} {events : List ℕ} {m : ℕ} {errors before : List ℕ} {i r k : ℕ} {point : LinePoint} {now : List ℕ} (x : Ongoing s base n events m errors before i r k point now) where
   abbrev all : List Tok
   all = all_tokens s base
 
   -- a piece, behind the records that go before it
-  module _ {f : Found} {p : Piece} {next : ℕ} (found : Finds n events i f) (e : f ≡ Found.Piece p next) where
+  module _ {p : Piece} {next : ℕ} (found : Finds n events i (Some (p, next))) where
     pub on_piece : i < next
-    on_piece = (found_first found e).1
+    on_piece = found.1
 
     pub next_within : next ≤ n
-    next_within = (found_first found e).2
+    next_within = found.2
 
     pub listing_on : (j : ℕ) (between after : List ℕ) (y : Noted) → Passes m errors r p j
         → record { count = k + (j - r); buffer = between } ≡ put_all (errors_left j r errors) (record { count = k; buffer = now })
@@ -116,7 +103,7 @@ module _ {s : List ℕ} {base n : ℕ} {events : List ℕ} {m : ℕ} {errors bef
     unfolding merged
     listing_on j between after y passes put kept₁ noted kept₂ =
         let rest = pieces (events_left n next events) false in
-        let q = found_first found e in
+        let q = found in
         record {
           same =
               sym (noted.same (merged rest))
@@ -137,14 +124,14 @@ module _ {s : List ℕ} {base n : ℕ} {events : List ℕ} {m : ℕ} {errors bef
   reported_words [] = refl
   reported_words (e ∷ es) = ap (λ (ws : List (List ℕ)). e ∷ ws) (reported_words es)
 
-  pub listing_end : {f : Found} (after : List ℕ) → Finds n events i f → f ≡ Found.Nothing
+  pub listing_end : (after : List ℕ) → Finds n events i None
       → record { count = k + (m - r); buffer = after } ≡ put_all (errors_left m r errors) (record { count = k; buffer = now })
       → record { count = k + (m - r); buffer = after } ≡ put_all (all_words all (mistakes_in n events m errors)) (record { count = 0; buffer = before })
   unfolding merged
-  listing_end after found e put =
+  listing_end after found put =
       put
       ∙ ap (λ (ws : List (List ℕ)). put_all ws (record { count = k; buffer = now })) (sym (reported_words (errors_left m r errors)))
-      ∙ ap (λ (ps : List Piece). put_all (all_words all (merged ps (errors_left m r errors))) (record { count = k; buffer = now })) (sym (found_no found e))
+      ∙ ap (λ (ps : List Piece). put_all (all_words all (merged ps (errors_left m r errors))) (record { count = k; buffer = now })) (sym found)
       ∙ x.same
 
 -- every mistake has seven words

@@ -4,7 +4,6 @@
 pub mod listing;
 
 ghost use Rattle.std.specs.Prelude.{◌≡◌};
-ghost use Rattle.token.specs.declared.checked.Checked.{Checked};
 ghost use Rattle.token.specs.Tokens.{all_tokens};
 ghost use Rattle.token.specs.Check.{checked};
 ghost use Rattle.mistake_rules.specs.Outcome.{listed_held, Lists};
@@ -13,10 +12,7 @@ use crate::listing::list_mistakes;
 use checks::check::check;
 use mistake_rules::answer::Listed;
 use rules::answer::{Answer, ERROR_WORDS, EVENT_WORDS};
-use token::checked::Checked;
-
-// The refusal's number: the mistakes do not fit.
-pub const NO_ROOM_FOR_MISTAKES: u32 = 14;
+use token::refusal::Refusal;
 
 fn unlisted(refusal: u32, place: usize) -> Listed
     ensures { result ≡ record { refusal = refusal; place = place; mistakes = 0 } }
@@ -37,22 +33,26 @@ pub fn mistakes_of(
     errors: &[u32],
     mistakes: &mut [u32],
 ) -> Listed
-    requires { checked s.now base ≡ Checked.Passed }
+    requires { checked s.now base ≡ Ok tt }
     ensures { record { answer = result; buffer = mistakes.new } ≡ listed_held (all_tokens s.now base) (record { answer = answer; events = events.now; errors = errors.now }) mistakes.old }
 {
-    let n = answer.events;
-    if events.len() / EVENT_WORDS < n {
-        return unlisted(7, 0);
+    if events.len() / EVENT_WORDS < answer.events {
+        return unlisted(Refusal::Events as u32, 0);
     }
-    let m = answer.errors;
-    if errors.len() / ERROR_WORDS < m {
-        return unlisted(8, 0);
+    if errors.len() / ERROR_WORDS < answer.errors {
+        return unlisted(Refusal::Errors as u32, 0);
     }
     let room = mistakes.len() / ERROR_WORDS;
-    let found = list_mistakes(s, base, events, n, errors, m, mistakes);
+    let found = list_mistakes(
+        s,
+        base,
+        &events[..answer.events * EVENT_WORDS],
+        &errors[..answer.errors * ERROR_WORDS],
+        mistakes,
+    );
     if room < found {
         return Listed {
-            refusal: NO_ROOM_FOR_MISTAKES,
+            refusal: Refusal::Mistakes as u32,
             place: 0,
             mistakes: found,
         };
@@ -80,9 +80,8 @@ pub fn mistakes(
         let place = answer.place;
         return unlisted(refusal, place);
     }
-    let checked = check(s, base);
-    match checked {
-        Checked::Refused(number, place) => unlisted(number, place),
-        Checked::Passed => mistakes_of(s, base, answer, events, errors, mistakes),
+    match check(s, base) {
+        Ok(()) => mistakes_of(s, base, answer, events, errors, mistakes),
+        Err(refused) => unlisted(refused.refusal.number(), refused.place),
     }
 }

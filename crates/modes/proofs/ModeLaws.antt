@@ -5,9 +5,9 @@ use Prim.Native.Nat.{ℕ, suc, ◌/◌}
 use lib.ListN.{length}
 use lib.Seq.{take-nil}
 use lib.Dec.{ltb}
-use Rattle.token.specs.declared.checked.Checked.{Checked}
+use Rattle.std.specs.Prelude.{Ok, Err}
 use Rattle.token.specs.Tokens.{Tok, all_tokens}
-use Rattle.token.specs.Check.{checked}
+use Rattle.token.specs.Check.{checked, Checked}
 use Rattle.rules.specs.declared.options.Mode.{Mode}
 use Rattle.rules.specs.Out.{Item, event, event_after, report, trailing_comma, stop}
 use Rattle.rules.specs.Words.{events_of, errors_of, halt_of}
@@ -52,8 +52,8 @@ unfolding filled
 none_filled errors = ap (λ (es : List (List ℕ)). written es errors) (sym (take-nil (length errors / error_size)))
 
 by_check : (c : Checked) (entry : Entry) (s : List ℕ) (base : ℕ) (events errors : List ℕ) → Alike errors (outcome_by c as_crate entry s base events errors) (outcome_by c as_brace entry s base events errors)
-by_check Checked.Passed entry s base events errors = walked_alike (all_tokens s base) (parse entry (all_tokens s base)).items events errors
-by_check (Checked.Refused r i) entry s base events errors =
+by_check (Ok u) entry s base events errors = walked_alike (all_tokens s base) (parse entry (all_tokens s base)).items events errors
+by_check (Err r) entry s base events errors =
     record { answer = refl; events = refl; first = []; second = []; in_first = none_filled errors; in_second = none_filled errors; alike = no_error }
 
 pub modes_alike : (entry : Entry) (s : List ℕ) (base : ℕ) (events errors : List ℕ) → Alike errors (outcome as_crate entry s base events errors) (outcome as_brace entry s base events errors)

@@ -1,40 +1,30 @@
 // Whether a key of a run is a multi-line string, by its event words. The Rust reads such a key with no report, but it is no key of TOML 1.0.0.
 #![tactic(auto)]
 
-ghost use Rattle.std.specs.Prelude.{◌≡◌, true, ◌↔◌, ◌*◌, ◌≤◌, length};
+ghost use Rattle.std.specs.Prelude.{◌≡◌, true, ◌↔◌, ◌/◌, length};
 ghost use Rattle.rules.specs.Answer.{event_size};
 ghost use Rattle.fitting.specs.Quiet.{multi_line_key};
 ghost use Rattle.quiet.specs.Runs.{NoneMultiLine, QuietAnswer, SingleLineAnswer};
 
+use event_kinds::{ML_BASIC_STRING, ML_LITERAL_STRING, SIMPLE_KEY};
 use quiet::run::is_quiet;
 use rules::answer::{Answer, EVENT_WORDS};
 
-// Whether an event of this kind and encoding, its first two words, is such a key: simple_key, encoding 3 or 4.
+// Whether an event of this kind and encoding, its first two words, is such a key.
 pub fn is_multi_line_key(kind: u32, encoding: u32) -> bool
     ensures { result ≡ multi_line_key kind encoding }
 {
-    if kind == 5 {
-        if encoding == 3 {
-            return true;
-        }
-        return encoding == 4;
-    }
-    false
+    kind == SIMPLE_KEY && (encoding == ML_LITERAL_STRING || encoding == ML_BASIC_STRING)
 }
 
-// Whether none of the first n events is one.
-fn none_multi_line(events: &[u32], n: usize) -> bool
-    requires { n * event_size ≤ length events.now }
-    ensures { (result ≡ true) ↔ NoneMultiLine n events.now }
+// Whether none of the events is one. Words behind the last whole event do not count.
+fn none_multi_line(events: &[u32]) -> bool
+    ensures { (result ≡ true) ↔ NoneMultiLine (length events.now / event_size) events.now }
 {
-    let mut i = 0;
-    while i < n {
-        let kind = events[i * EVENT_WORDS];
-        let encoding = events[i * EVENT_WORDS + 1];
-        if is_multi_line_key(kind, encoding) {
+    for i in 0..events.len() / EVENT_WORDS {
+        if is_multi_line_key(events[i * EVENT_WORDS], events[i * EVENT_WORDS + 1]) {
             return false;
         }
-        i += 1;
     }
     true
 }
@@ -44,29 +34,20 @@ fn none_multi_line(events: &[u32], n: usize) -> bool
 pub fn has_no_multi_line_key(answer: Answer, events: &[u32]) -> bool
     ensures { (result ≡ true) ↔ SingleLineAnswer answer events.now }
 {
-    let n = answer.events;
     let whole = events.len() / EVENT_WORDS;
-    if n <= whole {
-        return none_multi_line(events, n);
+    if answer.events <= whole {
+        return none_multi_line(&events[..answer.events * EVENT_WORDS]);
     }
-    let second = whole * EVENT_WORDS + 1;
-    if events.len() <= second {
-        return none_multi_line(events, whole);
-    }
-    let kind = events[whole * EVENT_WORDS];
-    let encoding = events[second];
-    if is_multi_line_key(kind, encoding) {
+    let kind = whole * EVENT_WORDS;
+    if kind + 1 < events.len() && is_multi_line_key(events[kind], events[kind + 1]) {
         return false;
     }
-    none_multi_line(events, whole)
+    none_multi_line(events)
 }
 
 // Both at once: whether the run was quiet, and no key is a multi-line string.
 pub fn is_quiet_without_multi_line_key(answer: Answer, events: &[u32]) -> bool
     ensures { (result ≡ true) ↔ (QuietAnswer answer events.now × SingleLineAnswer answer events.now) }
 {
-    if is_quiet(answer, events) {
-        return has_no_multi_line_key(answer, events);
-    }
-    false
+    is_quiet(answer, events) && has_no_multi_line_key(answer, events)
 }

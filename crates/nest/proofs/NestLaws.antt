@@ -1,4 +1,5 @@
 -- Arrays and inline tables that open one another: a loop of turns, for any rule of a turn. Assumes nothing.
+use Rattle.std.specs.Prelude.{Ok, Err}
 use mathlib.Core.Path.{◌≡◌, refl, ap, sym, ◌∙◌}
 use mathlib.Core.Bool.{true, false, false≢true}
 use mathlib.Core.List.{List, []}
@@ -25,8 +26,7 @@ use Rattle.output.specs.TurnLaws.{Turns, onward, fewer_left}
 use Rattle.array_parts.specs.declared.turn.Next.{Next}
 use Rattle.array_parts.specs.Turning.{Turned}
 use Rattle.array_runs.specs.TurnedLaws.{turned, moved}
-use Rattle.nest.specs.declared.nest.NestWalk.{NestWalk}
-use Rattle.nest.specs.Nested.{Nested}
+use Rattle.nest.specs.Nested.{NestWalk, walk_of, is_stopped, Nested}
 use Rattle.nest.specs.NestedLaws.{nested_stop, nested_done, then_nested, nested_from}
 
 module _ {S : Type 0} (nest : Nest) (turn : Nest → (S → List Tok → Out) → S → List Tok → Out) (still : (f g : S → List Tok → Out) (w : S) → turn nest f w [] ≡ turn nest g w [])
@@ -39,16 +39,16 @@ module _ {S : Type 0} (nest : Nest) (turn : Nest → (S → List Tok → Out) �
   Rest = onward (turn nest) still w inv w'
 
   -- the end
-  pub turn_over : x ≡ Next.Over → Nested s start cur₀ o₀ a b (record { cur = d; n = n; stopped = false })
+  pub turn_over : x ≡ Next.Over → Nested s start cur₀ o₀ a b (Ok (record { cur = d; n = n }))
   turn_over e = nested_from (turned nest turn still w inv w' t Next.Over e) (omega (arith, moved nest turn still w inv w' t Next.Over e, inv.on)) (t.base ∙ inv.base) (nested_done d a b n t.good)
 
   -- a bracket was opened, and its walk was refused or not
   module _ {a' b' : List ℕ} {v : NestWalk} (g : Out) (q : run All (g then Rest) (bufs a b n) ≡ run All start o₀) (h : cur.at + 1 ≤ d.at) (y : Nested s g d (bufs a b n) a' b' v) where
-    opened_again : v.stopped ≡ false → Turns s (λ k. turns (turn nest) k w' (tokens_at s v.cur)) start (bufs a' b' v.n) o₀ v.cur cur₀
+    opened_again : (is_stopped v) ≡ false → Turns s (λ k. turns (turn nest) k w' (tokens_at s (walk_of v).cur)) start (bufs a' b' (walk_of v).n) o₀ (walk_of v).cur cur₀
     opened_again e =
-        record { fuel = inv.fuel - 1; enough = fewer_left (turn nest) still w inv v.cur (omega (arith, h, y.on)) y.good; same = sym (then_nested Rest _ (t.base ∙ inv.base) y e) ∙ q; good = y.good; on = omega (arith, h, y.on, inv.on); base = y.base ∙ (t.base ∙ inv.base) }
+        record { fuel = inv.fuel - 1; enough = fewer_left (turn nest) still w inv (walk_of v).cur (omega (arith, h, y.on)) y.good; same = sym (then_nested Rest _ (t.base ∙ inv.base) y e) ∙ q; good = y.good; on = omega (arith, h, y.on, inv.on); base = y.base ∙ (t.base ∙ inv.base) }
 
-    opened_stop : v.stopped ≡ true → Nested s start cur₀ o₀ a' b' v
+    opened_stop : (is_stopped v) ≡ true → Nested s start cur₀ o₀ a' b' v
     opened_stop e = nested_from q (omega (arith, h, inv.on)) (t.base ∙ inv.base) (nested_stop Rest y e)
 
   pub array_moved : (u : Token) → x ≡ Next.OpenArray u → cur.at + 1 ≤ d.at
@@ -58,16 +58,16 @@ module _ {S : Type 0} (nest : Nest) (turn : Nest → (S → List Tok → Out) �
   table_moved u e = moved nest turn still w inv w' t (Next.OpenTable u) e
 
   module _ (u : Token) {a' b' : List ℕ} {v : NestWalk} where
-    pub array_again : x ≡ Next.OpenArray u → Nested s (nest Bracket.Square u.start u.end (tokens_at s d)) d (bufs a b n) a' b' v → v.stopped ≡ false → Turns s (λ k. turns (turn nest) k w' (tokens_at s v.cur)) start (bufs a' b' v.n) o₀ v.cur cur₀
+    pub array_again : x ≡ Next.OpenArray u → Nested s (nest Bracket.Square u.start u.end (tokens_at s d)) d (bufs a b n) a' b' v → (is_stopped v) ≡ false → Turns s (λ k. turns (turn nest) k w' (tokens_at s (walk_of v).cur)) start (bufs a' b' (walk_of v).n) o₀ (walk_of v).cur cur₀
     array_again e y f = opened_again (nest Bracket.Square u.start u.end (tokens_at s d)) (turned nest turn still w inv w' t (Next.OpenArray u) e) (array_moved u e) y f
 
-    pub array_stop : x ≡ Next.OpenArray u → Nested s (nest Bracket.Square u.start u.end (tokens_at s d)) d (bufs a b n) a' b' v → v.stopped ≡ true → Nested s start cur₀ o₀ a' b' v
+    pub array_stop : x ≡ Next.OpenArray u → Nested s (nest Bracket.Square u.start u.end (tokens_at s d)) d (bufs a b n) a' b' v → (is_stopped v) ≡ true → Nested s start cur₀ o₀ a' b' v
     array_stop e y f = opened_stop (nest Bracket.Square u.start u.end (tokens_at s d)) (turned nest turn still w inv w' t (Next.OpenArray u) e) (array_moved u e) y f
 
-    pub table_again : x ≡ Next.OpenTable u → Nested s (nest Bracket.Curly u.start u.end (tokens_at s d)) d (bufs a b n) a' b' v → v.stopped ≡ false → Turns s (λ k. turns (turn nest) k w' (tokens_at s v.cur)) start (bufs a' b' v.n) o₀ v.cur cur₀
+    pub table_again : x ≡ Next.OpenTable u → Nested s (nest Bracket.Curly u.start u.end (tokens_at s d)) d (bufs a b n) a' b' v → (is_stopped v) ≡ false → Turns s (λ k. turns (turn nest) k w' (tokens_at s (walk_of v).cur)) start (bufs a' b' (walk_of v).n) o₀ (walk_of v).cur cur₀
     table_again e y f = opened_again (nest Bracket.Curly u.start u.end (tokens_at s d)) (turned nest turn still w inv w' t (Next.OpenTable u) e) (table_moved u e) y f
 
-    pub table_stop : x ≡ Next.OpenTable u → Nested s (nest Bracket.Curly u.start u.end (tokens_at s d)) d (bufs a b n) a' b' v → v.stopped ≡ true → Nested s start cur₀ o₀ a' b' v
+    pub table_stop : x ≡ Next.OpenTable u → Nested s (nest Bracket.Curly u.start u.end (tokens_at s d)) d (bufs a b n) a' b' v → (is_stopped v) ≡ true → Nested s start cur₀ o₀ a' b' v
     table_stop e y f = opened_stop (nest Bracket.Curly u.start u.end (tokens_at s d)) (turned nest turn still w inv w' t (Next.OpenTable u) e) (table_moved u e) y f
 
 -- the rules' openings where a level is left, and where none is
@@ -84,7 +84,7 @@ open_table_lem s c (suc levels) a b h =
     let e : suc levels - 1 ≡ levels = omega arith in
     rw e (ap (λ (opened : ℕ). receiver.inline_table_open a b ▹ looping (inline_table_turn (span a b) opened (on_open levels)) (progress State.NeedsKey true) (tokens_at s c)) (sym (left_length s c)))
 
-pub no_level : {s : List ℕ} (levels : ℕ) (bracket : Bracket) (x y : ℕ) (c : Cursor) (a b : List ℕ) (n : Counts) → levels ≡ 0 → Good s c → Nested s (on_open levels bracket x y (tokens_at s c)) c (bufs a b n) a b (record { cur = c; n = n; stopped = true })
+pub no_level : {s : List ℕ} (levels : ℕ) (bracket : Bracket) (x y : ℕ) (c : Cursor) (a b : List ℕ) (n : Counts) → levels ≡ 0 → Good s c → Nested s (on_open levels bracket x y (tokens_at s c)) c (bufs a b n) a b (Err (record { walk = record { cur = c; n = n } }))
 unfolding on_open put bufs refused
 no_level zero bracket x y c a b n e g = record { wrote = λ base q. refl; rest = λ f. absurd (false≢true (sym f)); good = g; on = omega arith; base = refl }
 no_level (suc levels) bracket x y c a b n e g = absurd (omega (arith, e))

@@ -1,5 +1,6 @@
 -- Arrays that wait for one in them to end, kept on a stack: the walk of the innermost, then of those that wait, the nearest first,
 -- gives what the rules give for the outermost. Assumes nothing.
+use Rattle.std.specs.Prelude.{Ok, Err}
 use mathlib.Core.Path.{◌≡◌, refl, ap, sym, subst, ◌∙◌}
 use mathlib.Core.Bool.{true, false}
 use mathlib.Core.List.{List, [], ◌∷◌}
@@ -21,10 +22,9 @@ use Rattle.output.specs.Pour.{Bufs, bufs, put}
 use Rattle.output.specs.Walks.{End, run}
 use Rattle.output.specs.WalkLaws.{first_item, first_items}
 use Rattle.array_parts.specs.declared.turn.Next.{Next}
-use Rattle.array_turns.specs.declared.array.ArrayTurn.{ArrayTurn}
+use Rattle.array_parts.specs.declared.turn.StateTurn.{StateTurn}
 use Rattle.array_parts.specs.Turning.{go_on, Further, Wants}
-use Rattle.nest.specs.declared.nest.NestWalk.{NestWalk}
-use Rattle.nest.specs.Nested.{Nested}
+use Rattle.nest.specs.Nested.{NestWalk, walk_of, is_stopped, Nested}
 use Rattle.nest.specs.NestedLaws.{nested_stop, nested_done, then_nested, nested_from}
 use Rattle.array_runs.specs.Ran.{Enough, Left, Ran}
 use Rattle.nest.proofs.NestLaws.{open_array_lem, no_level}
@@ -98,7 +98,7 @@ resume_same [] all g g' o o' e = e
 resume_same (f ∷ fs) all g g' o o' e = resume_same fs all (g then waiting f) (g' then waiting f) o o' (then_same all (waiting f) g g' o o' e)
 
 -- a refusal is passed up
-resume_stop : (fs : List Frame) {s : List ℕ} {g : Out} {c : Cursor} {o : Bufs} {a b : List ℕ} {v : NestWalk} → Nested s g c o a b v → v.stopped ≡ true → Nested s (resume fs g) c o a b v
+resume_stop : (fs : List Frame) {s : List ℕ} {g : Out} {c : Cursor} {o : Bufs} {a b : List ℕ} {v : NestWalk} → Nested s g c o a b v → (is_stopped v) ≡ true → Nested s (resume fs g) c o a b v
 resume_stop [] x e = x
 resume_stop (f ∷ fs) x e = resume_stop fs (nested_stop (waiting f) x e) e
 
@@ -108,7 +108,7 @@ no_frames (f ∷ fs) starts ends depth left m (z, p, q, l, n, k) e = absurd (ome
 
 -- turns of the innermost array, from here, ended as r says
 module _ {s : List ℕ} {outer : ℕ} {start : Out} {o₀ : Bufs} {cur₀ : Cursor} {starts ends : List ℕ} {depth left a b : ℕ} {w : ArrayState} {o : Bufs} {cur : Cursor}
-    (inv : Stacked s outer start o₀ cur₀ starts ends depth left a b w o cur) {ev er : List ℕ} (r : ArrayTurn) (y : Ran s (span a b) w cur o ev er r) where
+    (inv : Stacked s outer start o₀ cur₀ starts ends depth left a b w o cur) {ev er : List ℕ} (r : StateTurn ArrayState) (y : Ran s (span a b) w cur o ev er r) where
   abbrev All : List Tok
   All = all_tokens s cur₀.base
 
@@ -165,7 +165,7 @@ module _ {s : List ℕ} {outer : ℕ} {start : Out} {o₀ : Bufs} {cur₀ : Curs
       }
 
   -- the end of the outermost array
-  pub stack_over : r.turn.next ≡ Next.Over → depth ≡ 0 → Nested s start cur₀ o₀ ev er (record { cur = r.turn.cur; n = r.turn.n; stopped = false })
+  pub stack_over : r.turn.next ≡ Next.Over → depth ≡ 0 → Nested s start cur₀ o₀ ev er (Ok (record { cur = r.turn.cur; n = r.turn.n }))
   stack_over e h =
       let q : run All (done (tokens_at s r.turn.cur)) (bufs ev er r.turn.n) ≡ run All start o₀ = subst (λ (fs : List Frame). run All (resume fs (done (tokens_at s r.turn.cur))) (bufs ev er r.turn.n) ≡ run All start o₀) (no_frames inv.frames starts ends depth left _ inv.held h) (here Next.Over e) in
       nested_from q (omega (arith, stack_over_moved e, inv.on)) (y.base ∙ inv.base) (nested_done r.turn.cur ev er r.turn.n y.good)
@@ -233,13 +233,13 @@ module _ {s : List ℕ} {outer : ℕ} {start : Out} {o₀ : Bufs} {cur₀ : Curs
 
   -- a bracket was opened by a call, which was refused or not
   module _ {ev' er' : List ℕ} {v : NestWalk} (g : Out) (q : run All (resume inv.frames (g then Loop onward.fuel r.state)) (bufs ev er r.turn.n) ≡ run All start o₀) (h : cur.at + 1 ≤ r.turn.cur.at) (m : length (tokens_at s r.turn.cur) ≤ onward.fuel) (z : Nested s g r.turn.cur (bufs ev er r.turn.n) ev' er' v) where
-    called_again : v.stopped ≡ false → Stacked s outer start o₀ cur₀ starts ends depth left a b r.state (bufs ev' er' v.n) v.cur
+    called_again : (is_stopped v) ≡ false → Stacked s outer start o₀ cur₀ starts ends depth left a b r.state (bufs ev' er' (walk_of v).n) (walk_of v).cur
     called_again e =
         record {
           frames = inv.frames;
-          held = held_less inv.frames starts ends depth left _ _ (fewer v.cur (omega (arith, h, z.on))) inv.held;
+          held = held_less inv.frames starts ends depth left _ _ (fewer (walk_of v).cur (omega (arith, h, z.on))) inv.held;
           fuel = onward.fuel;
-          enough = omega (arith, m, z.on, left_length s r.turn.cur, left_length s v.cur);
+          enough = omega (arith, m, z.on, left_length s r.turn.cur, left_length s (walk_of v).cur);
           same = resume_same inv.frames All _ _ _ _ (sym (then_nested (Loop onward.fuel r.state) _ (y.base ∙ inv.base) z e)) ∙ q;
           good = z.good;
           on = omega (arith, h, z.on, inv.on);
@@ -247,22 +247,22 @@ module _ {s : List ℕ} {outer : ℕ} {start : Out} {o₀ : Bufs} {cur₀ : Curs
           sum = inv.sum;
         }
 
-    called_stop : v.stopped ≡ true → Nested s start cur₀ o₀ ev' er' v
+    called_stop : (is_stopped v) ≡ true → Nested s start cur₀ o₀ ev' er' v
     called_stop e = nested_from q (omega (arith, h, inv.on)) (y.base ∙ inv.base) (resume_stop inv.frames (nested_stop (Loop onward.fuel r.state) z e) e)
 
   module _ (t : Token) {ev' er' : List ℕ} {v : NestWalk} where
-    pub stack_array_again : r.turn.next ≡ Next.OpenArray t → Nested s (on_open left Bracket.Square t.start t.end (tokens_at s r.turn.cur)) r.turn.cur (bufs ev er r.turn.n) ev' er' v → v.stopped ≡ false → Stacked s outer start o₀ cur₀ starts ends depth left a b r.state (bufs ev' er' v.n) v.cur
+    pub stack_array_again : r.turn.next ≡ Next.OpenArray t → Nested s (on_open left Bracket.Square t.start t.end (tokens_at s r.turn.cur)) r.turn.cur (bufs ev er r.turn.n) ev' er' v → (is_stopped v) ≡ false → Stacked s outer start o₀ cur₀ starts ends depth left a b r.state (bufs ev' er' (walk_of v).n) (walk_of v).cur
     stack_array_again e z f = called_again (on_open left Bracket.Square t.start t.end (tokens_at s r.turn.cur)) (here (Next.OpenArray t) e) (stack_array_moved t e) (enough_at (Next.OpenArray t) e) z f
 
-    pub stack_array_stop : r.turn.next ≡ Next.OpenArray t → Nested s (on_open left Bracket.Square t.start t.end (tokens_at s r.turn.cur)) r.turn.cur (bufs ev er r.turn.n) ev' er' v → v.stopped ≡ true → Nested s start cur₀ o₀ ev' er' v
+    pub stack_array_stop : r.turn.next ≡ Next.OpenArray t → Nested s (on_open left Bracket.Square t.start t.end (tokens_at s r.turn.cur)) r.turn.cur (bufs ev er r.turn.n) ev' er' v → (is_stopped v) ≡ true → Nested s start cur₀ o₀ ev' er' v
     stack_array_stop e z f = called_stop (on_open left Bracket.Square t.start t.end (tokens_at s r.turn.cur)) (here (Next.OpenArray t) e) (stack_array_moved t e) (enough_at (Next.OpenArray t) e) z f
 
-    pub stack_table_again : r.turn.next ≡ Next.OpenTable t → Nested s (on_open left Bracket.Curly t.start t.end (tokens_at s r.turn.cur)) r.turn.cur (bufs ev er r.turn.n) ev' er' v → v.stopped ≡ false → Stacked s outer start o₀ cur₀ starts ends depth left a b r.state (bufs ev' er' v.n) v.cur
+    pub stack_table_again : r.turn.next ≡ Next.OpenTable t → Nested s (on_open left Bracket.Curly t.start t.end (tokens_at s r.turn.cur)) r.turn.cur (bufs ev er r.turn.n) ev' er' v → (is_stopped v) ≡ false → Stacked s outer start o₀ cur₀ starts ends depth left a b r.state (bufs ev' er' (walk_of v).n) (walk_of v).cur
     stack_table_again e z f = called_again (on_open left Bracket.Curly t.start t.end (tokens_at s r.turn.cur)) (here (Next.OpenTable t) e) (stack_table_moved t e) (enough_at (Next.OpenTable t) e) z f
 
-    pub stack_table_stop : r.turn.next ≡ Next.OpenTable t → Nested s (on_open left Bracket.Curly t.start t.end (tokens_at s r.turn.cur)) r.turn.cur (bufs ev er r.turn.n) ev' er' v → v.stopped ≡ true → Nested s start cur₀ o₀ ev' er' v
+    pub stack_table_stop : r.turn.next ≡ Next.OpenTable t → Nested s (on_open left Bracket.Curly t.start t.end (tokens_at s r.turn.cur)) r.turn.cur (bufs ev er r.turn.n) ev' er' v → (is_stopped v) ≡ true → Nested s start cur₀ o₀ ev' er' v
     stack_table_stop e z f = called_stop (on_open left Bracket.Curly t.start t.end (tokens_at s r.turn.cur)) (here (Next.OpenTable t) e) (stack_table_moved t e) (enough_at (Next.OpenTable t) e) z f
 
   -- an array where no level is left
-  pub stack_none : (t : Token) → r.turn.next ≡ Next.OpenArray t → left ≡ 0 → Nested s start cur₀ o₀ ev er (record { cur = r.turn.cur; n = r.turn.n; stopped = true })
+  pub stack_none : (t : Token) → r.turn.next ≡ Next.OpenArray t → left ≡ 0 → Nested s start cur₀ o₀ ev er (Err (record { walk = record { cur = r.turn.cur; n = r.turn.n } }))
   stack_none t e h = stack_array_stop t e (no_level left Bracket.Square t.start t.end r.turn.cur ev er r.turn.n h y.good) refl

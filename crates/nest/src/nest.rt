@@ -5,7 +5,7 @@ ghost use Rattle.std.specs.Prelude.{◌≡◌, false};
 ghost use Rattle.token.specs.Tokens.{Good, tokens_at};
 ghost use Rattle.rules.specs.Nest.{on_array_open, on_inline_table_open};
 ghost use Rattle.output.specs.Pour.{bufs};
-ghost use Rattle.nest.specs.Nested.{Nested};
+ghost use Rattle.nest.specs.Nested.{Nested, walk_of};
 
 use array_parts::turn::Next;
 use array_runs::turns::array_turns;
@@ -22,28 +22,23 @@ use token::cursor::{Cursor, Token};
 // levels of `[` cost none.
 const HELD: usize = 16;
 
-// Where a walk ended, and the counts there; `stopped` says that one more level was refused, just behind its bracket.
+// One more level than is allowed was opened: where the walk stopped, just behind that level's bracket, and the counts there.
 #[derive(Clone, Copy)]
-pub struct NestWalk {
-    pub cur: Cursor,
-    pub n: Counts,
-    pub stopped: bool,
+pub struct TooDeep {
+    pub walk: Walk,
 }
 
-// A walk that was not refused.
-pub fn unstopped(w: Walk) -> NestWalk
-    ensures { result ≡ record { cur = w.cur; n = w.n; stopped = false } }
+// Where a walk ended, or was refused.
+pub fn walk_of(v: Result<Walk, TooDeep>) -> Walk
+    ensures { result ≡ walk_of v }
 {
-    let cur = w.cur;
-    let n = w.n;
-    NestWalk {
-        cur,
-        n,
-        stopped: false,
+    match v {
+        Ok(w) => w,
+        Err(refused) => refused.walk,
     }
 }
 
-#[cycle(on_array_open_on_inline_table_open)]
+#[cycle(opening)]
 pub fn on_array_open(
     s: &[u8],
     head: Token,
@@ -52,17 +47,15 @@ pub fn on_array_open(
     settings: Settings,
     events: &mut [u32],
     errors: &mut [u32],
-) -> NestWalk
+) -> Result<Walk, TooDeep>
     requires { Good s.now c }
     ensures { Nested s.now (on_array_open settings.levels head.start head.end (tokens_at s.now c)) c (bufs events.old errors.old m) events.new errors.new result }
 {
     let options = settings.options;
     if settings.levels == 0 {
-        return NestWalk {
-            cur: c,
-            n: m,
-            stopped: true,
-        };
+        return Err(TooDeep {
+            walk: Walk { cur: c, n: m },
+        });
     }
     let mut n = array_open(events, m, head);
     let mut cur = c;
@@ -83,11 +76,7 @@ pub fn on_array_open(
             Next::Again => {}
             Next::Over => {
                 if depth == 0 {
-                    return NestWalk {
-                        cur,
-                        n,
-                        stopped: false,
-                    };
+                    return Ok(Walk { cur, n });
                 }
                 depth -= 1;
                 left += 1;
@@ -97,11 +86,9 @@ pub fn on_array_open(
             }
             Next::OpenArray(t) => {
                 if left == 0 {
-                    return NestWalk {
-                        cur,
-                        n,
-                        stopped: true,
-                    };
+                    return Err(TooDeep {
+                        walk: Walk { cur, n },
+                    });
                 }
                 if depth < HELD {
                     starts[depth] = inner.start;
@@ -119,10 +106,7 @@ pub fn on_array_open(
                         levels: left,
                         options,
                     };
-                    let v = on_array_open(list, t, from, sofar, inside, events, errors);
-                    if v.stopped {
-                        return v;
-                    }
+                    let v = on_array_open(list, t, from, sofar, inside, events, errors)?;
                     cur = v.cur;
                     n = v.n;
                 }
@@ -135,10 +119,7 @@ pub fn on_array_open(
                     levels: left,
                     options,
                 };
-                let v = on_inline_table_open(list, t, from, sofar, inside, events, errors);
-                if v.stopped {
-                    return v;
-                }
+                let v = on_inline_table_open(list, t, from, sofar, inside, events, errors)?;
                 cur = v.cur;
                 n = v.n;
             }
@@ -146,7 +127,7 @@ pub fn on_array_open(
     }
 }
 
-#[cycle(on_array_open_on_inline_table_open)]
+#[cycle(opening)]
 pub fn on_inline_table_open(
     s: &[u8],
     head: Token,
@@ -155,18 +136,16 @@ pub fn on_inline_table_open(
     settings: Settings,
     events: &mut [u32],
     errors: &mut [u32],
-) -> NestWalk
+) -> Result<Walk, TooDeep>
     requires { Good s.now c }
     ensures { Nested s.now (on_inline_table_open settings.levels head.start head.end (tokens_at s.now c)) c (bufs events.old errors.old m) events.new errors.new result }
 {
     let levels = settings.levels;
     let options = settings.options;
     if levels == 0 {
-        return NestWalk {
-            cur: c,
-            n: m,
-            stopped: true,
-        };
+        return Err(TooDeep {
+            walk: Walk { cur: c, n: m },
+        });
     }
     let mut n = table_open(events, m, head);
     // By its parts, so that the compiler hands it over in memory: in two words its place would have to be taken out at each turn.
@@ -190,25 +169,18 @@ pub fn on_inline_table_open(
         let turn = a.turn;
         cur = turn.cur;
         n = turn.n;
-        p = a.progress;
+        p = a.state;
         let x = turn.next;
         match x {
             Next::Again => {}
             Next::Over => {
-                return NestWalk {
-                    cur,
-                    n,
-                    stopped: false,
-                };
+                return Ok(Walk { cur, n });
             }
             Next::OpenArray(t) => {
                 let list = s;
                 let from = cur;
                 let sofar = n;
-                let v = on_array_open(list, t, from, sofar, inside, events, errors);
-                if v.stopped {
-                    return v;
-                }
+                let v = on_array_open(list, t, from, sofar, inside, events, errors)?;
                 cur = v.cur;
                 n = v.n;
             }
@@ -216,10 +188,7 @@ pub fn on_inline_table_open(
                 let list = s;
                 let from = cur;
                 let sofar = n;
-                let v = on_inline_table_open(list, t, from, sofar, inside, events, errors);
-                if v.stopped {
-                    return v;
-                }
+                let v = on_inline_table_open(list, t, from, sofar, inside, events, errors)?;
                 cur = v.cur;
                 n = v.n;
             }

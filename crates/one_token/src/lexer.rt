@@ -17,6 +17,7 @@ fn piece(kind: Kind, end: usize) -> Found
     Found { end, kind }
 }
 
+#[tactic(auto, using(scan::specs::ScanLaws::three_within, scan::specs::TokenLaws::ml_literal_is, scan::specs::TokenLaws::ml_basic_is))]
 pub fn process_token(text: &[u8], at: usize) -> Found
     requires { at < length text.now }
     ensures { IsToken text.now at result }

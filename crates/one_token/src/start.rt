@@ -4,6 +4,7 @@ ghost use Rattle.scan.specs.Lexer.{start_of};
 
 use scan::start::Start;
 
+#[tactic(auto, unfolding(scan::specs::Lexer::start_of))]
 pub fn start_of(b: u8) -> Start
     ensures { result ≡ start_of b }
 {
@@ -15,8 +16,7 @@ pub fn start_of(b: u8) -> Start
         b']' => Start::RightSquareBracket,
         b'{' => Start::LeftCurlyBracket,
         b'}' => Start::RightCurlyBracket,
-        b' ' => Start::Wschar,
-        b'\t' => Start::Wschar,
+        b' ' | b'\t' => Start::Wschar,
         b'#' => Start::CommentStartSymbol,
         b'\r' => Start::CarriageReturn,
         b'\n' => Start::LineFeed,

@@ -1,12 +1,11 @@
 -- Laws that every walk uses: what is emitted first is poured first, a loop's turns, and what a read tells a rule.
 -- Proved; nothing here needs to be believed.
-use Rattle.std.specs.Prelude.{◌≡◌, refl, false, List, [], ◌∷◌, ◌++◌, ℕ, ◌≤◌}
+use Rattle.std.specs.Prelude.{◌≡◌, refl, false, Option, Some, None, List, [], ◌∷◌, ◌++◌, ℕ, ◌≤◌}
 use Rattle.std.proofs.Common.{ap, sym, subst, ◌∙◌, arith}
 use Rattle.token.specs.Tokens.{Tok, tok, all_tokens, tokens_at, Good, Took, Next, NextIf, starts_with}
 use Rattle.token.specs.declared.kind.Kind.{Kind}
 use Rattle.token.specs.declared.cursor.Token.{Token}
 use Rattle.token.specs.declared.cursor.Cursor.{Cursor}
-use Rattle.token.specs.declared.cursor.Step.{Step}
 use Rattle.rules.specs.Out.{Item, Out, done, ◌▹◌, ◌▸◌, ◌then◌}
 use Rattle.output.specs.declared.emitting.Counts.{Counts}
 use Rattle.output.specs.declared.emitting.Walk.{Walk}
@@ -64,16 +63,16 @@ module _ {s : List ℕ} {now start : Out} {o o₀ : Bufs} {cur cur₀ : Cursor} 
   finish_by {a = a} {b} {w} e h q g = finish a b w (e ∙ sym (g.is cur₀.base (q ∙ inv.base))) (omega (arith, h, g.on)) (g.base ∙ q) g.good
 
 -- what a read tells
-pub told : (s : List ℕ) (c : Cursor) (st : Step) (t : Token) (d : Cursor) → Next s c st → st ≡ Step.Got t d → Took s c t d
+pub told : (s : List ℕ) (c : Cursor) (st : Option (Token × Cursor)) (t : Token) (d : Cursor) → Next s c st → st ≡ Some (t, d) → Took s c t d
 told s c st t d n e = subst (Next s c) e n
 
-pub told_done : (s : List ℕ) (c : Cursor) (st : Step) → Next s c st → st ≡ Step.Done → tokens_at s c ≡ []
+pub told_done : (s : List ℕ) (c : Cursor) (st : Option (Token × Cursor)) → Next s c st → st ≡ None → tokens_at s c ≡ []
 told_done s c st n e = subst (Next s c) e n
 
-pub told_if : (s : List ℕ) (c : Cursor) (k : Kind) (st : Step) (t : Token) (d : Cursor) → NextIf s c k st → st ≡ Step.Got t d → (t.kind ≡ k) × Took s c t d
+pub told_if : (s : List ℕ) (c : Cursor) (k : Kind) (st : Option (Token × Cursor)) (t : Token) (d : Cursor) → NextIf s c k st → st ≡ Some (t, d) → (t.kind ≡ k) × Took s c t d
 told_if s c k st t d n e = subst (NextIf s c k) e n
 
-pub told_none : (s : List ℕ) (c : Cursor) (k : Kind) (st : Step) → NextIf s c k st → st ≡ Step.Done → starts_with k (tokens_at s c) ≡ false
+pub told_none : (s : List ℕ) (c : Cursor) (k : Kind) (st : Option (Token × Cursor)) → NextIf s c k st → st ≡ None → starts_with k (tokens_at s c) ≡ false
 told_none s c k st n e = subst (NextIf s c k) e n
 
 -- a rule at the token that was read, by what its kind is to the rule; and at the end of the list

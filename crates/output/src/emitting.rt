@@ -29,6 +29,7 @@ pub struct Walk {
 }
 
 // An event over start..end.
+#[tactic(auto, unfolding(crate::specs::Pour::put, crate::specs::Pour::bufs))]
 pub fn emit(events: &mut [u32], n: Counts, event: Event, start: u32, end: u32) -> Counts
     ensures { (all : List Tok) (errors : List ℕ) → bufs events.new errors result ≡ put all (item.event event start end) (bufs events.old errors n) }
 {
@@ -47,6 +48,7 @@ pub fn emit(events: &mut [u32], n: Counts, event: Event, start: u32, end: u32) -
 }
 
 // An error: message, what was expected, the context from..to, the unexpected start..end.
+#[tactic(auto, unfolding(crate::specs::Pour::put, crate::specs::Pour::bufs))]
 pub fn report(
     errors: &mut [u32],
     n: Counts,
@@ -68,6 +70,7 @@ pub fn report(
 
 // A trailing comma in the inline table that `head` opened, of which `behind` is the first record. The comma is still to be looked for, before the
 // record `past`, a `}` that starts at `start`.
+#[tactic(auto, using(buffer_puts::specs::CapLaws::capped_low), unfolding(crate::specs::Pour::put, crate::specs::Pour::bufs))]
 pub fn report_trailing_comma(
     errors: &mut [u32],
     n: Counts,

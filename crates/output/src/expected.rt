@@ -1,4 +1,4 @@
-// What an error report says was expected, by the numbers of docs/LAYOUT.md.
+// What an error report says was expected, by the numbers of docs/LAYOUT.md. They are numbers and no enum, since each is a word of the buffer that C lends and reads.
 pub const NOTHING: u32 = 1;
 
 pub const CLOSE_SQUARE: u32 = 2;

@@ -1,4 +1,4 @@
-// The messages of error reports, by the numbers of docs/LAYOUT.md.
+// The messages of error reports, by the numbers of docs/LAYOUT.md. They are numbers and no enum, since each is a word of the buffer that C lends and reads.
 pub const UNCLOSED_ARRAY_TABLE: u32 = 1;
 
 pub const UNCLOSED_TABLE: u32 = 2;

@@ -1,8 +1,7 @@
 -- What the search for pieces promises: the piece that it finds is the first, and the others come from the events behind it. Assumes nothing.
-use Rattle.std.specs.Prelude.{ℕ, ◌-◌, ◌<◌, ◌≤◌, ◌≡◌, true, false, List, [], ◌∷◌}
+use Rattle.std.specs.Prelude.{ℕ, ◌-◌, ◌<◌, ◌≤◌, ◌≡◌, true, false, List, [], ◌∷◌, Option, Some, None}
 use Rattle.pieces.specs.declared.pieces.Piece.{Piece}
 use Rattle.pieces.specs.declared.pieces.Skip.{Skip}
-use Rattle.pieces.specs.declared.pieces.Found.{Found}
 use Rattle.pieces.specs.Pieces.{Seen, events_from, skipped_to, pieces}
 
 -- the events from event i on, of n
@@ -17,6 +16,6 @@ pub record Skips (n : ℕ) (buffer : List ℕ) (i end : ℕ) (r : Skip) : Type 0
   pub within : r.next ≤ n
 
 -- the pieces from event i on are the one that was found and those behind it, or none
-pub data Finds (n : ℕ) (buffer : List ℕ) (i : ℕ) : Found → Type 0 where
-  first : {p : Piece} {next : ℕ} → pieces (events_left n i buffer) false ≡ p ∷ pieces (events_left n next buffer) false → i < next → next ≤ n → Finds n buffer i (Found.Piece p next)
-  none : pieces (events_left n i buffer) false ≡ [] → Finds n buffer i Found.Nothing
+abbrev pub Finds : ℕ → List ℕ → ℕ → Option (Piece × ℕ) → Type 0
+Finds n buffer i (Some (p, next)) = (pieces (events_left n i buffer) false ≡ p ∷ pieces (events_left n next buffer) false) × (i < next) × (next ≤ n)
+Finds n buffer i None = pieces (events_left n i buffer) false ≡ []

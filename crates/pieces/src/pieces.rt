@@ -1,7 +1,6 @@
 // The pieces of a run, one after the other: what is wrong by its events alone.
-ghost use Rattle.std.specs.Prelude.{◌≡◌, false, ◌-◌, ◌*◌, ◌<◌, ◌≤◌, length};
+ghost use Rattle.std.specs.Prelude.{◌/◌, ◌≤◌, length};
 ghost use Rattle.rules.specs.Answer.{event_size};
-ghost use Rattle.pieces.specs.Pieces.{events_from, skipped_to};
 ghost use Rattle.pieces.specs.Finding.{Skips, Finds};
 
 use crate::messages::TEXT_SKIPPED;
@@ -23,32 +22,18 @@ pub struct Skip {
     pub next: usize,
 }
 
-// The next piece and the event behind it, or none.
-#[derive(Clone, Copy)]
-pub enum Found {
-    Piece(Piece, usize),
-    Nothing,
-}
-
 // On with skipped text that has come to `end`, from event i on.
-fn skip_on(events: &[u32], n: usize, i: usize, end: u32) -> Skip
-    requires event_size_in_bounds { n * event_size ≤ length events.now }
-    requires i_le_n { i ≤ n }
-    ensures { Skips n events.now i end result }
+fn skip_on(events: &[u32], i: usize, end: u32) -> Skip
+    requires { i ≤ length events.now / event_size }
+    ensures { Skips (length events.now / event_size) events.now i end result }
 {
-    let mut at = i;
+    let n = events.len() / EVENT_WORDS;
     let mut last = end;
-    while at < n {
-        let sort = sort_at(events, at);
-        match sort {
-            Sort::Skipped => {
-                last = events[at * EVENT_WORDS + 3];
-                at += 1;
-            }
-            Sort::Blank => {
-                at += 1;
-            }
-            _ => {
+    for at in i..n {
+        match sort_at(events, at) {
+            Sort::Skipped => last = events[at * EVENT_WORDS + 3],
+            Sort::Blank => {}
+            Sort::Sound | Sort::Wrong(_) => {
                 return Skip {
                     end: last,
                     next: at,
@@ -56,52 +41,41 @@ fn skip_on(events: &[u32], n: usize, i: usize, end: u32) -> Skip
             }
         }
     }
-    Skip {
-        end: last,
-        next: at,
-    }
+    Skip { end: last, next: n }
 }
 
-// The first piece from event i on.
-pub fn next_piece(events: &[u32], n: usize, i: usize) -> Found
-    requires event_size_in_bounds { n * event_size ≤ length events.now }
-    requires i_le_n { i ≤ n }
-    ensures { Finds n events.now i result }
+// The first piece from event i on, and the event behind it, if there is one. Words behind the last whole event do not count.
+pub fn next_piece(events: &[u32], i: usize) -> Option<(Piece, usize)>
+    requires { i ≤ length events.now / event_size }
+    ensures { Finds (length events.now / event_size) events.now i result }
 {
-    let mut at = i;
-    while at < n {
-        let b = at * EVENT_WORDS;
-        let sort = sort_at(events, at);
-        match sort {
+    for at in i..events.len() / EVENT_WORDS {
+        let start = events[at * EVENT_WORDS + 2];
+        let end = events[at * EVENT_WORDS + 3];
+        match sort_at(events, at) {
             Sort::Skipped => {
-                let start = events[b + 2];
-                let end = events[b + 3];
-                let skip = skip_on(events, n, at + 1, end);
-                return Found::Piece(
+                let skip = skip_on(events, at + 1, end);
+                return Some((
                     Piece {
                         message: TEXT_SKIPPED,
                         start,
                         end: skip.end,
                     },
                     skip.next,
-                );
+                ));
             }
             Sort::Wrong(message) => {
-                let start = events[b + 2];
-                let end = events[b + 3];
-                return Found::Piece(
+                return Some((
                     Piece {
                         message,
                         start,
                         end,
                     },
                     at + 1,
-                );
+                ));
             }
-            _ => {
-                at += 1;
-            }
+            Sort::Blank | Sort::Sound => {}
         }
     }
-    Found::Nothing
+    None
 }

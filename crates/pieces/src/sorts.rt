@@ -4,6 +4,7 @@ ghost use Rattle.rules.specs.Answer.{event_size};
 ghost use Rattle.pieces.specs.Pieces.{sort_of, event_at};
 
 use crate::messages::{MULTI_LINE_STRING, missing};
+use event_kinds::{ERROR, WHITESPACE};
 use multi_line_keys::is_multi_line_key;
 use rules::answer::EVENT_WORDS;
 
@@ -16,17 +17,17 @@ pub enum Sort {
     Wrong(u32),
 }
 
-// By the four words of an event. Kind 17 is error, 14 whitespace.
+// By the four words of an event.
 fn sort_of(kind: u32, encoding: u32, start: u32, end: u32) -> Sort
     ensures { result ≡ sort_of (record { kind = kind; encoding = encoding; start = start; end = end }) }
 {
-    if kind == 17 {
+    if kind == ERROR {
         return Sort::Skipped;
     }
     if start == end {
         return Sort::Wrong(missing(kind));
     }
-    if kind == 14 {
+    if kind == WHITESPACE {
         return Sort::Blank;
     }
     if is_multi_line_key(kind, encoding) {

@@ -1,11 +1,14 @@
 -- Laws of loops through a text, once for all of them. Proved; nothing here needs to be believed.
 use Rattle.std.specs.Prelude.{◌≡◌, Bool, length, drop, get_or, eqb, ltb}
 use Rattle.std.proofs.Math.Path.{refl}
-use Rattle.std.proofs.Common.{ap, sym, ◌∙◌, add-one, length-drop, drop_of_length-le, drop-cons, drop-drop, eq-eqb, ne_eqb, eqb-true, ltb-true, ltb-false}
+use Rattle.std.proofs.Common.{ap, sym, ◌∙◌, add-one, length-drop, drop_of_length-le, Fits, w8, drop-cons, drop-drop, eq-eqb, ne_eqb, eqb-true, ltb-true, ltb-false}
 use Rattle.std.proofs.Math.Bool.{true, false, cond}
 use Rattle.std.proofs.lemmas.Bool.{false≢true}
+use Rattle.std.proofs.lemmas.List.{get_or-drop}
+use Rattle.std.proofs.lemmas.List.Sums.{position_or_len_is}
+use Rattle.std.specs.List.{position_or_len, AllWithin, HoldsAt}
 use mathlib.Core.List.{List, [], ◌∷◌}
-use Prim.Native.Nat.{ℕ, zero, suc, ◌+◌, ◌-◌, ◌<◌, ◌≤◌}
+use Prim.Native.Nat.{ℕ, zero, suc, min, ◌+◌, ◌-◌, ◌<◌, ◌≤◌}
 use native.Mathlib.Omega.{arith}
 use Rattle.places.specs.Places.{Scanned, peeks, all_of, Passed}
 
@@ -204,13 +207,6 @@ pub record Led (set : ℕ → Bool) (s : List ℕ) (at first k : ℕ) : Type 0 w
   pub low : first ≤ 32
   pub each : (n : ℕ) → n ≤ k → n ≤ first → all_of set n (drop at s) ≡ true
 
-least_low : (a b : ℕ) → (cond (ltb b a) b a ≤ a) × (cond (ltb b a) b a ≤ b)
-least_low a b = by_test (ltb b a) refl
-  where
-    by_test : (t : Bool) → ltb b a ≡ t → (cond t b a ≤ a) × (cond t b a ≤ b)
-    by_test true e = let z = ltb-true b a e in (omega (arith, z), omega arith)
-    by_test false e = let z = ltb-false b a e in (omega arith, omega (arith, z))
-
 module _ {set : ℕ → Bool} {s : List ℕ} {at : ℕ} where
   pub led_begun : Led set s at 32 0
   led_begun = record { most = omega arith; low = omega arith; each = λ n h l. let z : n ≡ 0 = omega (arith, h) in rw z (all_none set (drop at s)) }
@@ -223,13 +219,12 @@ module _ {set : ℕ → Bool} {s : List ℕ} {at : ℕ} where
         let o : all_of set 1 (get_or s (at + k) 0 ∷ drop (at + k + 1) s) ≡ true = all_first set 0 _ _ ∙ rw (e, all_none set (drop (at + k + 1) s)) in
         all_more set k 1 (drop at s) (x.each k (omega arith) l) (ap (all_of set 1) d ∙ o)
 
-    pub led_on : k < 32 → at + k < length s → (place least : ℕ) → place ≡ cond (set (get_or s (at + k) 0)) 32 k → least ≡ cond (ltb place first) place first → Led set s at least (k + 1)
+    pub led_on : k < 32 → at + k < length s → (place least : ℕ) → place ≡ cond (set (get_or s (at + k) 0)) 32 k → least ≡ min first place → Led set s at least (k + 1)
     led_on l h place least p q =
-        let low = least_low first place in
         record {
           most = omega (arith, l);
-          low = omega (arith, q, low.0, x.low);
-          each = λ n m f. by_place (set (get_or s (at + k) 0)) refl p n m (omega (arith, q, low.0, f)) (omega (arith, q, low.1, f));
+          low = omega (arith, q, x.low);
+          each = λ n m f. by_place (set (get_or s (at + k) 0)) refl p n m (omega (arith, q, f)) (omega (arith, q, f));
         }
       where
         by_far : (n : ℕ) → n ≤ k + 1 → n ≤ first → set (get_or s (at + k) 0) ≡ true → (t : Bool) → ltb k n ≡ t → all_of set n (drop at s) ≡ true
@@ -250,3 +245,18 @@ module _ {set : ℕ → Bool} {s : List ℕ} {at : ℕ} where
           within = omega (arith, x.low, w);
           each = λ n e. x.each n (omega (arith, e, x.low, h)) (omega (arith, e));
         }
+
+-- the first byte of a set, where a test was asked of each byte
+module _ (set : ℕ → Bool) (s : List ℕ) (at : ℕ) (up : at ≤ length s) (fits : (i : ℕ) → Fits w8 (get_or s i 0)) where
+  short : (k : ℕ) → get_or (drop at s) k 0 < 256
+  short k = let h : Fits w8 (get_or s (at + k) 0) = fits (at + k) in rw get_or-drop (omega arith)
+
+  pub first_at : (i : ℕ) → (i < length (drop at s)) × HoldsAt (λ b. b < 256 → set b ≡ true) (drop at s) i × AllWithin (λ b. b < 256 → set b ≡ false) (drop at s) 0 i → Scanned (λ bs. position_or_len set bs) s at (at + i)
+  first_at i (h, here, before) =
+      let e : position_or_len set (drop at s) ≡ i = position_or_len_is set (drop at s) i 0 (omega arith) (λ k l. before k 0 (omega arith) l (short k)) (λ l. here 0 (short i)) in
+      record { is = omega (arith, e); within = omega (arith, h, length-drop at s) }
+
+  pub first_none : AllWithin (λ b. b < 256 → set b ≡ false) (drop at s) 0 (length (drop at s)) → Scanned (λ bs. position_or_len set bs) s at (length s)
+  first_none each =
+      let e : position_or_len set (drop at s) ≡ length (drop at s) = position_or_len_is set (drop at s) (length (drop at s)) 0 (omega arith) (λ k l. each k 0 (omega arith) l (short k)) (λ l. absurd (omega arith)) in
+      record { is = omega (arith, e, length-drop at s); within = omega arith }

@@ -1,6 +1,6 @@
 -- What the functions promise that look through a text from a place on. A rule says how many bytes it takes from the start of
 -- a list of bytes; what it says of a text from a place on, it says of the bytes from there. Assumes nothing.
-use Rattle.std.specs.Prelude.{◌≡◌, Bool, true, false, cond, List, [], ◌∷◌, ℕ, zero, suc, ◌+◌, ◌≤◌, length, drop, eqb}
+use Rattle.std.specs.Prelude.{◌≡◌, Bool, true, false, cond, List, [], ◌∷◌, ℕ, zero, suc, ◌+◌, ◌<◌, ◌≤◌, length, drop, eqb}
 
 -- from `at` on the rule takes the bytes up to `end`
 pub record Scanned (rule : List ℕ → ℕ) (text : List ℕ) (at end : ℕ) : Type 0 where
@@ -36,3 +36,7 @@ pub record Passed (set : ℕ → Bool) (text : List ℕ) (at end : ℕ) : Type 0
   pub up : at ≤ end
   pub within : end ≤ length text
   pub each : (n : ℕ) → end ≡ at + n → all_of set n (drop at text) ≡ true
+
+-- whatever the test says of a byte, it is true where the byte is of the set
+abbrev pub Tells : (ℕ → Bool → Type 0) → (ℕ → Bool) → Type 0
+Tells says set = (b : ℕ) (r : Bool) → b < 256 → says b r → r ≡ set b

@@ -1,7 +1,9 @@
-// Past bytes that are none of three. The places of those among thirty-two are compared, each by itself, so that the compiler takes
+// Past bytes that are none of three. The place is a number, and 32 where none is one: a minimum of numbers is what the compiler makes vector
+// code of, and the library memchr takes two fifths more for long comments. Three bytes are three parameters, since an array would be passed
+// by its address. The places of those among thirty-two are compared, each by itself, so that the compiler takes
 // the bytes sixteen at a time. It does so for three bytes to look for, and not for two or one: where fewer matter, a control
 // character that people do not write makes up the number.
-ghost use Rattle.std.specs.Prelude.{◌≡◌, cond, [], ◌∷◌, ◌+◌, ◌≤◌, length, ltb};
+ghost use Rattle.std.specs.Prelude.{◌≡◌, cond, [], ◌∷◌, ◌+◌, ◌≤◌, length};
 ghost use Rattle.places.specs.Places.{none_of, Passed};
 
 // These make up the number.
@@ -13,25 +15,7 @@ pub const DEL: u8 = 127;
 fn place_of(b: u8, k: u8, x: u8, y: u8, z: u8) -> u8
     ensures { result ≡ cond (none_of (x ∷ y ∷ z ∷ []) b) 32 k }
 {
-    if b == x {
-        return k;
-    }
-    if b == y {
-        return k;
-    }
-    if b == z {
-        return k;
-    }
-    32
-}
-
-fn least(a: u8, b: u8) -> u8
-    ensures { result ≡ cond (ltb b a) b a }
-{
-    if b < a {
-        return b;
-    }
-    a
+    if b == x || b == y || b == z { k } else { 32 }
 }
 
 // The place of the first among the thirty-two bytes from `at` on that is one of the three, or 32: the bytes before it are none.
@@ -40,15 +24,13 @@ fn first_of(text: &[u8], at: usize, x: u8, y: u8, z: u8) -> u8
     ensures { Passed (none_of (x ∷ y ∷ z ∷ [])) text.now at (at + result) }
 {
     let mut first: u8 = 32;
-    let mut k = 0;
-    while k < 32 {
-        let place = place_of(text[at + k], k as u8, x, y, z);
-        first = least(first, place);
-        k += 1;
+    for k in 0..32 {
+        first = first.min(place_of(text[at + k], k as u8, x, y, z));
     }
     first
 }
 
+// A turn goes on by as many bytes as it has passed, so no `for` says it plainer.
 // Past bytes that are none of the three, up to the first that is one, or to the last thirty-one of the text.
 pub fn past_plain(text: &[u8], at: usize, x: u8, y: u8, z: u8) -> usize
     requires { at ≤ length text.now }
@@ -70,11 +52,8 @@ pub fn past_plain_if_first(text: &[u8], at: usize, x: u8, y: u8, z: u8) -> usize
     requires { at ≤ length text.now }
     ensures { Passed (none_of (x ∷ y ∷ z ∷ [])) text.now at result }
 {
-    if at < text.len() {
-        let place = place_of(text[at], 0, x, y, z);
-        if place == 0 {
-            return at;
-        }
+    if at < text.len() && place_of(text[at], 0, x, y, z) == 0 {
+        return at;
     }
     past_plain(text, at, x, y, z)
 }

@@ -10,12 +10,10 @@ fn none_empty(events: &[u32], n: usize) -> bool
     requires { n * event_size ≤ length events.now }
     ensures { (result ≡ true) ↔ NoneEmpty n events.now }
 {
-    let mut i = 0;
-    while i < n {
+    for i in 0..n {
         if events[i * EVENT_WORDS + 2] == events[i * EVENT_WORDS + 3] {
             return false;
         }
-        i += 1;
     }
     true
 }
@@ -25,12 +23,7 @@ fn none_empty(events: &[u32], n: usize) -> bool
 pub fn is_quiet(answer: Answer, events: &[u32]) -> bool
     ensures { (result ≡ true) ↔ QuietAnswer answer events.now }
 {
-    let refusal = answer.refusal;
-    if refusal != 0 {
-        return false;
-    }
-    let errors = answer.errors;
-    if errors != 0 {
+    if answer.refusal != 0 || answer.errors != 0 {
         return false;
     }
     let n = answer.events;
@@ -38,14 +31,8 @@ pub fn is_quiet(answer: Answer, events: &[u32]) -> bool
     if n <= whole {
         return none_empty(events, n);
     }
-    if whole + 1 < n {
-        return false;
-    }
     let start = whole * EVENT_WORDS + 2;
-    if events.len() <= start {
-        return false;
-    }
-    if events[start] == 0 {
+    if whole + 1 < n || events.len() <= start || events[start] == 0 {
         return false;
     }
     none_empty(events, whole)

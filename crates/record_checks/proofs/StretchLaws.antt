@@ -1,12 +1,13 @@
 -- Laws of stretches of records: record by record, and what they tell of the check. Proved; nothing here needs to be believed.
-use mathlib.Core.Path.{◌≡◌, refl, sym, ◌∙◌}
+use mathlib.Core.Path.{◌≡◌, refl, sym, ap, ◌∙◌}
 use mathlib.Core.Bool.{Bool, true, false, cond, false≢true}
 use mathlib.Core.List.{List}
 use Prim.Native.Nat.{ℕ, zero, suc, ◌+◌, ◌-◌, ◌*◌, ◌<◌, ◌≤◌}
 use native.Mathlib.Omega.{arith}
 use native.Mathlib.Numerals.{add-one}
 use native.Mathlib.Nat.{add-zero, zero-add, suc-add}
-use borrow.Author.Tests.{eqb-true, eq-eqb}
+use Rattle.std.specs.Prelude.{Option, Some, None}
+use Rattle.std.specs.Option.{is_none}
 use Rattle.token.specs.Records.{count, length_at}
 use Rattle.token.specs.Check.{checked_from, passed}
 use Rattle.token.specs.CheckLaws.{Summed, summed_on, summed_refused}
@@ -43,6 +44,10 @@ both : (a b : Bool) → cond a b false ≡ true → (a ≡ true) × (b ≡ true)
 both true b e = (refl, e)
 both false b e = absurd (false≢true e)
 
+none_is : {A : Type 0} (r : Option A) → is_none r ≡ true → r ≡ None
+none_is None e = refl
+none_is (Some x) e = absurd (false≢true e)
+
 -- if the records before a stretch are summed, so are those up to its end; or the list is refused
 module _ {s : List ℕ} {end₀ i₀ end i : ℕ} (x : Summed s end₀ i₀ end i) where
   pub summed_by : (k : ℕ) → i + k ≤ count s → Narrow k s i → all_fit k s i ≡ true → Summed s end₀ i₀ (end + lengths_of k s i) (i + k)
@@ -51,10 +56,10 @@ module _ {s : List ℕ} {end₀ i₀ end i : ℕ} (x : Summed s end₀ i₀ end 
       let f = both (all_fit k s i) (fits_at s (i + k)) e in
       let ends : end + lengths_of k s i + length_at s (i + k) ≡ end + (lengths_of k s i + length_at s (i + k)) = omega arith in
       let next : i + k + 1 ≡ i + suc k = omega arith in
-      rw (ends, next) at (summed_on (summed_by k (omega (arith, h)) b.0 f.0) _ (omega (arith, h)) refl (eqb-true _ _ f.1) b.1)
+      rw (ends, next) at (summed_on (summed_by k (omega (arith, h)) b.0 f.0) (omega (arith, h)) (none_is _ f.1) b.1)
 
   refused_last : (t : Bool) (k : ℕ) → all_fit k s i ≡ t → i + suc k ≤ count s → Narrow k s i → cond t (fits_at s (i + k)) false ≡ false → (all_fit k s i ≡ false → passed (checked_from (count s - i₀) s i₀ end₀) ≡ false) → passed (checked_from (count s - i₀) s i₀ end₀) ≡ false
-  refused_last true k q h b e on = summed_refused (summed_by k (omega (arith, h)) b q) _ (omega (arith, h)) refl (λ z. false≢true (sym e ∙ eq-eqb _ _ z))
+  refused_last true k q h b e on = summed_refused (summed_by k (omega (arith, h)) b q) (omega (arith, h)) (λ z. false≢true (sym e ∙ ap is_none z))
   refused_last false k q h b e on = on q
 
   pub refused_by : (k : ℕ) → i + k ≤ count s → Narrow k s i → all_fit k s i ≡ false → passed (checked_from (count s - i₀) s i₀ end₀) ≡ false

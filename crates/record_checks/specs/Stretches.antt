@@ -1,11 +1,12 @@
 -- A stretch of records: the k records from record i on, asked without regard to where they end. Assumes nothing.
-use Rattle.std.specs.Prelude.{Bool, true, false, cond, List, ℕ, zero, suc, ◌+◌, ◌<◌, eqb}
+use Rattle.std.specs.Prelude.{Bool, true, false, cond, List, ℕ, zero, suc, ◌+◌, ◌<◌}
+use Rattle.std.specs.Option.{is_none}
 use Rattle.token.specs.Records.{length_at, kind_number_at}
 use Rattle.token.specs.Check.{record_refusal}
 
 -- whether record i is refused neither for its kind's number nor for its length
 abbrev pub fits_at : List ℕ → ℕ → Bool
-fits_at s i = eqb (record_refusal (kind_number_at s i) (length_at s i) 0) 0
+fits_at s i = is_none (record_refusal (kind_number_at s i) (length_at s i) 0)
 
 -- whether that is so of all of the stretch
 abbrev pub all_fit : ℕ → List ℕ → ℕ → Bool

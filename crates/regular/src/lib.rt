@@ -5,18 +5,9 @@ ghost use Rattle.std.specs.Prelude.{◌≡◌, true, ◌↔◌};
 ghost use Rattle.token.specs.Kinds.{kind_of};
 ghost use Rattle.token.specs.Tokens.{all_tokens};
 ghost use Rattle.fitting.specs.Premises.{Regular};
-ghost use Rattle.regular.specs.Regular.{both, is_whitespace, is_eof};
+ghost use Rattle.regular.specs.Regular.{is_whitespace, is_eof};
 
 use token::record::kind_number_at;
-
-fn both(a: bool, b: bool) -> bool
-    ensures { result ≡ both a b }
-{
-    if a {
-        return b;
-    }
-    false
-}
 
 // By the number of a kind. One that names no kind is read as Eof.
 fn is_whitespace(number: u32) -> bool
@@ -29,10 +20,7 @@ fn is_whitespace(number: u32) -> bool
 fn is_eof(number: u32) -> bool
     ensures { result ≡ is_eof (kind_of number) }
 {
-    if number < 1 {
-        return true;
-    }
-    15 < number
+    number < 1 || 15 < number
 }
 
 pub fn is_regular(records: &[u8], base: u32) -> bool
@@ -40,18 +28,16 @@ pub fn is_regular(records: &[u8], base: u32) -> bool
 {
     let n = records.len() / 6;
     let mut behind = false;
-    let mut i = 0;
-    while i < n {
+    for i in 0..n {
         let number = kind_number_at(records, i);
         if is_eof(number) {
             return i + 1 == n;
         }
         let whitespace = is_whitespace(number);
-        if both(behind, whitespace) {
+        if behind && whitespace {
             return false;
         }
         behind = whitespace;
-        i += 1;
     }
     false
 }

@@ -5,9 +5,11 @@ use mathlib.Core.List.{List, [], ◌∷◌}
 use Prim.Native.Nat.{ℕ, ◌*◌, ◌/◌, ◌≤◌}
 use native.Mathlib.Omega.{arith}
 use lib.ListN.{length, take}
-use Rattle.token.specs.declared.checked.Checked.{Checked}
+use Rattle.std.specs.Prelude.{Ok, Err}
+use Rattle.token.specs.declared.checked.Refused.{Refused}
+use Rattle.token.specs.Refusals.{refusal_number}
 use Rattle.token.specs.Tokens.{Tok, all_tokens}
-use Rattle.token.specs.Check.{checked}
+use Rattle.token.specs.Check.{checked, Checked}
 use Rattle.rules.specs.declared.options.Mode.{Mode}
 use Rattle.rules.specs.declared.options.Options.{Options}
 use Rattle.rules.specs.Out.{Item, event, event_after, report, trailing_comma, stop}
@@ -34,45 +36,45 @@ errors_sized mode all (trailing_comma head opened left start ∷ is) = sized_ent
 errors_sized mode all (stop n ∷ is) = sized_none
 
 -- what is left to be done after a check that passed
-pub passed_outcome : (options : Options) (e : Entry) (s : List ℕ) (base : ℕ) (evs ers : List ℕ) → checked s base ≡ Checked.Passed
+pub passed_outcome : (options : Options) (e : Entry) (s : List ℕ) (base : ℕ) (evs ers : List ℕ) → checked s base ≡ Ok tt
     → outcome options e s base evs ers ≡ walked options.mode (all_tokens s base) (parse e (all_tokens s base)).items evs ers
 unfolding outcome
 passed_outcome options e s base evs ers h = ap (λ (c : Checked). outcome_by c options e s base evs ers) h
 
 module _ (options : Options) (e : Entry) (s : List ℕ) (base : ℕ) (evs ers : List ℕ) where
   -- refusals 1 to 5: no entry is counted, and both buffers are as they were
-  pub refused_outcome_lem : (r i : ℕ) → checked s base ≡ Checked.Refused r i
-      → outcome options e s base evs ers ≡ record { answer = record { refusal = r; place = i; events = 0; errors = 0 }; events = evs; errors = ers }
+  pub refused_outcome_lem : (r : Refused) → checked s base ≡ Err r
+      → outcome options e s base evs ers ≡ record { answer = record { refusal = refusal_number r.refusal; place = r.place; events = 0; errors = 0 }; events = evs; errors = ers }
   unfolding outcome
-  refused_outcome_lem r i h = ap (λ (c : Checked). outcome_by c options e s base evs ers) h
+  refused_outcome_lem r h = ap (λ (c : Checked). outcome_by c options e s base evs ers) h
 
   -- the answer and the buffers after a check that passed
-  pub counted_events : checked s base ≡ Checked.Passed → (outcome options e s base evs ers).answer.events ≡ length (events_of (all_tokens s base) (parse e (all_tokens s base)).items)
+  pub counted_events : checked s base ≡ Ok tt → (outcome options e s base evs ers).answer.events ≡ length (events_of (all_tokens s base) (parse e (all_tokens s base)).items)
   unfolding walked
   counted_events p = ap (λ (o : Outcome). o.answer.events) (passed_outcome options e s base evs ers p)
 
-  pub counted_errors : checked s base ≡ Checked.Passed → (outcome options e s base evs ers).answer.errors ≡ length (errors_of options.mode (all_tokens s base) (parse e (all_tokens s base)).items)
+  pub counted_errors : checked s base ≡ Ok tt → (outcome options e s base evs ers).answer.errors ≡ length (errors_of options.mode (all_tokens s base) (parse e (all_tokens s base)).items)
   unfolding walked
   counted_errors p = ap (λ (o : Outcome). o.answer.errors) (passed_outcome options e s base evs ers p)
 
-  pub events_written : checked s base ≡ Checked.Passed → (outcome options e s base evs ers).events ≡ filled event_size (events_of (all_tokens s base) (parse e (all_tokens s base)).items) evs
+  pub events_written : checked s base ≡ Ok tt → (outcome options e s base evs ers).events ≡ filled event_size (events_of (all_tokens s base) (parse e (all_tokens s base)).items) evs
   unfolding walked
   events_written p = ap (λ (o : Outcome). o.events) (passed_outcome options e s base evs ers p)
 
-  pub errors_written : checked s base ≡ Checked.Passed → (outcome options e s base evs ers).errors ≡ filled error_size (errors_of options.mode (all_tokens s base) (parse e (all_tokens s base)).items) ers
+  pub errors_written : checked s base ≡ Ok tt → (outcome options e s base evs ers).errors ≡ filled error_size (errors_of options.mode (all_tokens s base) (parse e (all_tokens s base)).items) ers
   unfolding walked
   errors_written p = ap (λ (o : Outcome). o.errors) (passed_outcome options e s base evs ers p)
 
   -- both buffers keep their lengths
   event_room_by : (c : Checked) → length (outcome_by c options e s base evs ers).events ≡ length evs
   unfolding walked
-  event_room_by Checked.Passed = filled_length evs (events_sized (all_tokens s base) (parse e (all_tokens s base)).items)
-  event_room_by (Checked.Refused r i) = refl
+  event_room_by (Ok u) = filled_length evs (events_sized (all_tokens s base) (parse e (all_tokens s base)).items)
+  event_room_by (Err r) = refl
 
   error_room_by : (c : Checked) → length (outcome_by c options e s base evs ers).errors ≡ length ers
   unfolding walked
-  error_room_by Checked.Passed = filled_length ers (errors_sized options.mode (all_tokens s base) (parse e (all_tokens s base)).items)
-  error_room_by (Checked.Refused r i) = refl
+  error_room_by (Ok u) = filled_length ers (errors_sized options.mode (all_tokens s base) (parse e (all_tokens s base)).items)
+  error_room_by (Err r) = refl
 
   pub event_room : length (outcome options e s base evs ers).events ≡ length evs
   unfolding outcome

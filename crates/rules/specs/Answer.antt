@@ -1,8 +1,8 @@
 -- The answer of an entry, and both buffers after it: the eight refusals in document 01's order. Assumes nothing.
-use Rattle.std.specs.Prelude.{ℕ, ◌-◌, ◌/◌, Bool, true, false, List, [], ◌∷◌, ◌++◌, length, take, drop, ltb}
-use Rattle.token.specs.declared.checked.Checked.{Checked}
+use Rattle.std.specs.Prelude.{ℕ, ◌-◌, ◌/◌, Bool, true, false, List, [], ◌∷◌, ◌++◌, length, take, drop, ltb, Ok, Err}
+use Rattle.token.specs.Refusals.{refusal_number}
 use Rattle.token.specs.Tokens.{Tok, all_tokens}
-use Rattle.token.specs.Check.{checked}
+use Rattle.token.specs.Check.{checked, Checked}
 use Rattle.rules.specs.declared.answer.Answer.{Answer}
 use Rattle.rules.specs.declared.options.Mode.{Mode}
 use Rattle.rules.specs.declared.options.Options.{Options}
@@ -65,8 +65,8 @@ walked mode all is events errors =
 
 -- refusals 1 to 5 leave the counts 0 and both buffers untouched
 abbrev pub outcome_by : Checked → Options → Entry → List ℕ → ℕ → List ℕ → List ℕ → Outcome
-outcome_by (Checked.Refused r place) options entry s base events errors = record { answer = record { refusal = r; place = place; events = 0; errors = 0 }; events = events; errors = errors }
-outcome_by Checked.Passed options entry s base events errors = walked options.mode (all_tokens s base) (parse entry (all_tokens s base)).items events errors
+outcome_by (Err r) options entry s base events errors = record { answer = record { refusal = refusal_number r.refusal; place = r.place; events = 0; errors = 0 }; events = events; errors = errors }
+outcome_by (Ok u) options entry s base events errors = walked options.mode (all_tokens s base) (parse entry (all_tokens s base)).items events errors
 
 -- what an entry does with the record bytes s, the base and the two buffers
 unfoldable pub outcome : Options → Entry → List ℕ → ℕ → List ℕ → List ℕ → Outcome

@@ -9,7 +9,7 @@ use classes::scalar::{in_scalar, starting_of};
 use output::emitting::{Counts, Walk, emit};
 use rules::event::{Encoding, Event};
 use rules::scalar::{InScalar, Starting};
-use token::cursor::{Cursor, Step, Token};
+use token::cursor::{Cursor, Token};
 use token::kind::Kind;
 
 // How far an unquoted scalar goes: the cursor past it, and where it ends.
@@ -34,21 +34,14 @@ fn reach_of(s: &[u8], c: Cursor, sofar: u32) -> Reach
 {
     let mut cur = c;
     let mut end = sofar;
-    loop {
-        let step = cur.next(s);
-        let Step::Got(t, past) = step else {
-            return Reach { cur, end };
-        };
-        let k = t.kind;
-        let x = in_scalar(k);
-        match x {
+    while let Some((t, past)) = cur.next(s) {
+        match in_scalar(t.kind) {
             InScalar::Dot | InScalar::Atom => {
                 end = t.end;
                 cur = past;
             }
             InScalar::Whitespace => {
-                let two = past.next_token_if(s, Kind::Atom);
-                let Step::Got(second, beyond) = two else {
+                let Some((second, beyond)) = past.next_token_if(s, Kind::Atom) else {
                     return Reach { cur, end };
                 };
                 end = second.end;
@@ -59,6 +52,7 @@ fn reach_of(s: &[u8], c: Cursor, sofar: u32) -> Reach
             }
         }
     }
+    Reach { cur, end }
 }
 
 // What the scalar that starts with t is, and how far it goes.
@@ -67,10 +61,8 @@ fn extent_of(s: &[u8], t: Token, c: Cursor) -> Extent
     requires starts { Starts (starting_of t.kind) }
     ensures { Extends s.now t c result }
 {
-    let k = t.kind;
     let end = t.end;
-    let x = starting_of(k);
-    match x {
+    match starting_of(t.kind) {
         Starting::Quoted(encoding) => Extent {
             cur: c,
             end,
@@ -78,9 +70,8 @@ fn extent_of(s: &[u8], t: Token, c: Cursor) -> Extent
         },
         Starting::Unquoted => {
             let r = reach_of(s, c, end);
-            let cur = r.cur;
             Extent {
-                cur,
+                cur: r.cur,
                 end: r.end,
                 encoding: Encoding::None,
             }

@@ -6,9 +6,11 @@ use Rattle.std.proofs.Math.Bool.{true, false}
 use Rattle.std.proofs.lemmas.Bool.{false≢true}
 use mathlib.Core.List.{List, [], ◌∷◌}
 use borrow.Author.Tests.{ne_eqb}
-use Rattle.places.specs.Places.{is_byte, peeks, starts_with, none_of}
+use Rattle.std.specs.List.{position_or_len}
+use Rattle.std.proofs.lemmas.List.Recursion.{is_position_or_len}
+use Rattle.places.specs.Places.{Scanned, is_byte, peeks, starts_with, none_of}
 use Rattle.places.specs.Plain.{in_comment, in_literal, in_ml_literal, in_basic, in_ml_basic}
-use Rattle.places.specs.PlaceLaws.{here, peeks_within, dropped, dropped_two, dropped_three}
+use Rattle.places.specs.PlaceLaws.{Still, here, peeks_within, dropped, dropped_two, dropped_three}
 use Rattle.scan.specs.Bytes.{line_feed, carriage_return, quotation_mark, apostrophe, backslash}
 use Rattle.scan.specs.Lexer.{until, three_of, up_to_two, takes_next, taken, lex_comment, lex_literal_string, lex_basic_string, lex_ml_literal_string, lex_ml_basic_string}
 
@@ -20,6 +22,16 @@ module _ (set : ℕ → Bool) (s : List ℕ) (i : ℕ) (h : i < length s) where
   pub until_on : set (get_or s i 0) ≡ false → until set (drop i s) ≡ suc (until set (drop (i + 1) s))
   unfolding until
   until_on e = rw (here s i h, e)
+
+-- the library's word for it
+pub until_is : (set : ℕ → Bool) (bs : List ℕ) → until set bs ≡ position_or_len set bs
+unfolding until
+until_is set bs = is_position_or_len (until set) set refl (λ x xs. let e : suc (until set xs) ≡ 1 + until set xs = omega arith in ap (λ (n : ℕ). cond (set x) 0 n) e) bs
+
+-- from a place of a token that goes on to the first byte of the set
+module _ (set : ℕ → Bool) {s : List ℕ} {i₀ i j : ℕ} where
+  pub until_found : Still (λ bs. until set bs) s i₀ i → Scanned (λ bs. position_or_len set bs) s i j → Scanned (λ bs. until set bs) s i₀ j
+  until_found x y = record { is = omega (arith, x.same, y.is, until_is set (drop i s)); within = y.within }
 
 -- three of a byte
 abbrev three_by : Bool → Bool → Bool → Bool

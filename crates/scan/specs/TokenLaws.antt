@@ -1,14 +1,14 @@
 -- Laws of one token at a place of the text. Proved; nothing here needs to be believed.
-use Rattle.std.specs.Prelude.{◌≡◌, Bool, true, false, cond, List, ◌∷◌, ℕ, ◌+◌, ◌<◌, ◌≤◌, length, drop, get_or}
-use Rattle.std.proofs.Common.{ap, sym, ◌∙◌, drop-drop}
-use Rattle.places.specs.Places.{is_byte, peeks, starts_with}
+use Rattle.std.specs.Prelude.{◌≡◌, true, false, List, ◌∷◌, ℕ, ◌+◌, ◌<◌, ◌≤◌, length, drop, get_or}
+use Rattle.std.proofs.Common.{ap, sym, ◌∙◌}
+use Rattle.places.specs.Places.{starts_with}
 use Rattle.places.specs.PlaceLaws.{here, dropped_three}
 use Rattle.token.specs.declared.kind.Kind.{Kind}
 use Rattle.token.specs.declared.kind.Kind.TheVariants.{LiteralString, BasicString, MlLiteralString, MlBasicString}
 use Rattle.scan.specs.declared.lexer.Found.{Found}
 use Rattle.scan.specs.declared.start.Start.{Start}
 use Rattle.scan.specs.Bytes.{quotation_mark, apostrophe}
-use Rattle.scan.specs.Lexer.{three_of, start_of, Piece, piece, process_token, lex_literal_string, lex_basic_string, lex_ml_literal_string, lex_ml_basic_string, base_of}
+use Rattle.scan.specs.Lexer.{three_of, start_of, Piece, piece, process_token, lex_literal_string, lex_basic_string, lex_ml_literal_string, lex_ml_basic_string}
 use Rattle.scan.specs.Finding.{IsToken}
 
 module _ (s : List ℕ) (at : ℕ) where
@@ -37,12 +37,3 @@ module _ (s : List ℕ) (at : ℕ) where
 
     pub ml_basic_is : starts_with (three_of quotation_mark) (drop at s) ≡ true → process_token Start.QuotationMark (get_or s at 0) (drop (at + 1) s) ≡ piece MlBasicString (2 + lex_ml_basic_string false (drop (at + 3) s))
     ml_basic_is e = rw (three_here quotation_mark ∙ e) (ap (λ (l : List ℕ). piece MlBasicString (2 + lex_ml_basic_string false l)) (dropped_three s at))
-
--- a byte order mark
-abbrev mark_by : Bool → Bool → Bool → ℕ
-mark_by a b c = cond (cond a (cond b (cond c true false) false) false) 3 0
-
-pub mark_is : (s : List ℕ) (a b c : Bool) → peeks (is_byte 239) s ≡ a → peeks (is_byte 187) (drop 1 s) ≡ b → peeks (is_byte 191) (drop 2 s) ≡ c → base_of s ≡ mark_by a b c
-mark_is s a b c x y z =
-    ap (λ (l : List ℕ). mark_by (peeks (is_byte 239) s) (peeks (is_byte 187) (drop 1 s)) (peeks (is_byte 191) l)) (drop-drop 1 1 s)
-    ∙ rw (x, y, z)

@@ -12,7 +12,7 @@ use output::emitting::{Counts, Walk};
 use output::expected::A_KEY;
 use rules::keys::InKey;
 use simple_parts::{on_missing_key, simple_part};
-use token::cursor::{Cursor, Step};
+use token::cursor::Cursor;
 
 pub fn simple_key(
     s: &[u8],
@@ -25,14 +25,11 @@ pub fn simple_key(
     requires { Good s.now c }
     ensures { Goes s.now (simple_key message (tokens_at s.now c)) c (bufs events.old errors.old m) events.new errors.new result }
 {
-    let step = c.next(s);
-    let Step::Got(t, past) = step else {
+    let Some((t, past)) = c.next(s) else {
         let n = nothing_left(s, c, m, message, A_KEY, errors);
         return Walk { cur: c, n };
     };
-    let k = t.kind;
-    let x = in_key(k);
-    match x {
+    match in_key(t.kind) {
         InKey::Part(e) => simple_part(s, t, e, past, m, message, events, errors),
         _ => on_missing_key(s, t, past, m, message, events, errors),
     }

@@ -30,9 +30,7 @@ pub fn on_missing_key(
     ensures { Goes s.now (on_missing_key message (in_line t.kind) t.start t.end (tokens_at s.now c)) c (bufs events.old errors.old m) events.new errors.new result }
 {
     let i = report_before(errors, m, message, A_KEY, t, t);
-    let k = t.kind;
-    let x = in_line(k);
-    match x {
+    match in_line(t.kind) {
         InLine::Comment => on_comment(s, t, c, i, events, errors),
         InLine::Newline => {
             let n = emit(events, i, Event::Newline, t.start, t.end);

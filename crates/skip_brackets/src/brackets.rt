@@ -9,7 +9,7 @@ use output::emitting::{Counts, Walk, emit};
 use rules::event::Event;
 use rules::skipping::{Bracket, InClose};
 use skip_lines::skipping::on_comment;
-use token::cursor::{Cursor, Step};
+use token::cursor::Cursor;
 
 // Up to the bracket that closes; those opened meanwhile are counted.
 pub fn ignore_to_value_close(
@@ -27,15 +27,9 @@ pub fn ignore_to_value_close(
     let mut n = m;
     let mut arrays: usize = 0;
     let mut tables: usize = 0;
-    loop {
-        let step = cur.next(s);
-        let Step::Got(t, past) = step else {
-            return Walk { cur, n };
-        };
+    while let Some((t, past)) = cur.next(s) {
         cur = past;
-        let k = t.kind;
-        let x = in_close(k);
-        match x {
+        match in_close(t.kind) {
             InClose::Comment => {
                 let w = on_comment(s, t, cur, n, events, errors);
                 cur = w.cur;
@@ -89,4 +83,5 @@ pub fn ignore_to_value_close(
         }
         n = emit(events, n, Event::Error, t.start, t.end);
     }
+    Walk { cur, n }
 }

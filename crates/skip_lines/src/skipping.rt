@@ -12,7 +12,7 @@ use output::expected::A_NEWLINE;
 use output::message::CONTENT_AFTER_COMMENT;
 use rules::event::Event;
 use rules::skipping::InLine;
-use token::cursor::{Cursor, Step, Token};
+use token::cursor::{Cursor, Token};
 
 // The token t behind a comment that began at `begin`: a report, and an error event.
 fn content_after_comment(
@@ -55,11 +55,7 @@ fn to_line_end(
     let mut n = m;
     let mut after = behind;
     let mut start = begin;
-    loop {
-        let step = cur.next(s);
-        let Step::Got(t, past) = step else {
-            return Walk { cur, n };
-        };
+    while let Some((t, past)) = cur.next(s) {
         cur = past;
         let k = t.kind;
         let x = in_line(k);
@@ -93,6 +89,7 @@ fn to_line_end(
             }
         }
     }
+    Walk { cur, n }
 }
 
 pub fn ignore_to_newline(

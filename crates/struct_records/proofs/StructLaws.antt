@@ -2,6 +2,7 @@
 -- Proved; nothing here needs to be believed.
 use mathlib.Core.Path.{◌≡◌, refl, sym, ap, ◌∙◌}
 use mathlib.Core.Bool.{true}
+use Rattle.std.specs.Prelude.{Option, Some, None}
 use mathlib.Core.List.{List, [], ◌∷◌, ◌++◌}
 use Prim.Native.Nat.{ℕ, ◌+◌, ◌*◌, ◌/◌, ◌%◌, ◌≤◌, ◌<◌}
 use native.Mathlib.Omega.{arith}
@@ -18,7 +19,6 @@ use Rattle.rules.specs.Entries.{document_entry}
 use Rattle.rules.specs.declared.options.Options.{Options}
 use Rattle.rules.specs.declared.answer.Answer.{Answer}
 use Rattle.rules.specs.Answer.{outcome}
-use Rattle.choices.specs.declared.modes.Chosen.{Chosen}
 use Rattle.choices.specs.Modes.{chosen_by, outcome_of, AnswersIn}
 use Rattle.struct_records.specs.declared.Token.{Token}
 use Rattle.struct_records.specs.Structs.{records_of, too_many_by, too_many}
@@ -79,10 +79,10 @@ too_many_known options ys base events errors h =
     let many : ltb max_records (length (records_of ys) / 6) ≡ true = lt-ltb max_records (length (records_of ys) / 6) (omega (arith, l)) in
     rw (whole, many)
 
-too_many_by_lem : (x : Chosen) (ys : List Token) (base : ℕ) (events errors : List ℕ) → max_records < length ys
+too_many_by_lem : (x : Option Options) (ys : List Token) (base : ℕ) (events errors : List ℕ) → max_records < length ys
     → record { answer = too_many_by x; events = events; errors = errors } ≡ outcome_of x document_entry (records_of ys) base events errors
-too_many_by_lem (Chosen.Known options) ys base events errors h = too_many_known options ys base events errors h
-too_many_by_lem Chosen.Unknown ys base events errors h = refl
+too_many_by_lem (Some options) ys base events errors h = too_many_known options ys base events errors h
+too_many_by_lem None ys base events errors h = refl
 
 pub too_many_lem : (mode : ℕ) (ys : List Token) (base : ℕ) (events errors : List ℕ) (r : Answer) → max_records < length ys → r ≡ too_many mode → AnswersIn mode document_entry (records_of ys) base events errors events errors r
 too_many_lem mode ys base events errors r h e = ap (λ (z : Answer). record { answer = z; events = events; errors = errors }) e ∙ too_many_by_lem (chosen_by mode) ys base events errors h

@@ -1,7 +1,7 @@
 -- The record bytes of token structs. Assumes nothing.
-use Rattle.std.specs.Prelude.{◌≡◌, List, [], ◌∷◌, ◌++◌, ℕ, ◌*◌, ◌<◌, ◌^◌, length}
+use Rattle.std.specs.Prelude.{◌≡◌, List, [], ◌∷◌, ◌++◌, ℕ, ◌*◌, ◌<◌, ◌^◌, length, Option, Some, None}
 use Rattle.rules.specs.declared.answer.Answer.{Answer}
-use Rattle.choices.specs.declared.modes.Chosen.{Chosen}
+use Rattle.rules.specs.declared.options.Options.{Options}
 use Rattle.choices.specs.Modes.{chosen_by, unknown_mode}
 use Rattle.token.specs.Limits.{max_records}
 use Rattle.token.specs.Records.{length_at, kind_number_at}
@@ -21,9 +21,9 @@ pub record KindsAndLengthsKept : Type 0 where
   pub kinds : (before : List Token) (t : Token) (behind : List Token) → t.kind < 2 ^ 16 → kind_number_at (records_of (before ++ (t ∷ behind))) (length before) ≡ t.kind
 
 -- the answer to more structs than there may be records: an unknown mode is refused before it
-abbrev pub too_many_by : Chosen → Answer
-too_many_by (Chosen.Known options) = record { refusal = 2; place = max_records; events = 0; errors = 0 }
-too_many_by Chosen.Unknown = unknown_mode
+abbrev pub too_many_by : Option Options → Answer
+too_many_by (Some options) = record { refusal = 2; place = max_records; events = 0; errors = 0 }
+too_many_by None = unknown_mode
 
 abbrev pub too_many : ℕ → Answer
 too_many mode = too_many_by (chosen_by mode)

@@ -8,9 +8,10 @@ ghost use Rattle.token.specs.Limits.{max_records};
 ghost use Rattle.token.specs.Writing.{put_at};
 ghost use Rattle.struct_records.specs.Structs.{records_of, too_many};
 
-use choices::modes::{Chosen, choose, unknown_mode};
+use choices::modes::{choose, unknown_mode};
 use rules::answer::Answer;
 use token::checked::MAX_RECORDS;
+use token::refusal::Refusal;
 use writing::put_record;
 
 // A token: its length in bytes, and the number of its kind.
@@ -22,13 +23,11 @@ pub struct Token {
 }
 
 // Record i: the struct's.
-fn put(records: &mut [u8], i: usize, t: Token)
+fn put(records: &mut [u8], i: usize, token: Token)
     requires { 6 * i + 6 ≤ length records.old }
-    ensures { records.new ≡ put_at records.old i t.length t.kind }
+    ensures { records.new ≡ put_at records.old i token.length token.kind }
 {
-    let length = t.length;
-    let kind = t.kind;
-    put_record(records, i, length as usize, kind as usize);
+    put_record(records, i, token.length as usize, usize::from(token.kind));
 }
 
 // The records of all structs, one after the other.
@@ -36,11 +35,8 @@ pub fn copy(tokens: &[Token], records: &mut [u8])
     requires { 6 * length tokens.now ≤ length records.old }
     ensures { records.new ≡ records_of tokens.now ++ drop (6 * length tokens.now) records.old }
 {
-    let mut i = 0;
-    while i < tokens.len() {
-        let t = tokens[i];
-        put(records, i, t);
-        i += 1;
+    for (i, token) in tokens.iter().enumerate() {
+        put(records, i, *token);
     }
 }
 
@@ -55,14 +51,13 @@ pub fn is_too_many(n: usize) -> bool
 pub fn too_many(mode: u32) -> Answer
     ensures { result ≡ too_many mode }
 {
-    let choice = choose(mode);
-    match choice {
-        Chosen::Known(_) => Answer {
-            refusal: 2,
+    match choose(mode) {
+        Some(_) => Answer {
+            refusal: Refusal::Records as u32,
             place: MAX_RECORDS,
             events: 0,
             errors: 0,
         },
-        Chosen::Unknown => unknown_mode(),
+        None => unknown_mode(),
     }
 }

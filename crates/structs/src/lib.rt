@@ -6,7 +6,7 @@ ghost use Rattle.rules.specs.Entries.{document_entry};
 ghost use Rattle.choices.specs.Modes.{AnswersIn};
 ghost use Rattle.struct_records.specs.Structs.{records_of};
 
-use choices::modes::{Chosen, choose, unknown_mode};
+use choices::modes::{choose, unknown_mode};
 use entries::entries::parse_document;
 use rules::answer::Answer;
 use struct_records::{Token, copy, is_too_many, too_many};
@@ -27,10 +27,9 @@ fn parse_records(
     ensures { AnswersIn mode document_entry (take (6 * n) records.old) base events.old errors.old events.new errors.new result }
 {
     let end = 6 * n;
-    let choice = choose(mode);
-    match choice {
-        Chosen::Known(options) => parse_document(&records[..end], base, options, events, errors),
-        Chosen::Unknown => unknown_mode(),
+    match choose(mode) {
+        Some(options) => parse_document(&records[..end], base, options, events, errors),
+        None => unknown_mode(),
     }
 }
 

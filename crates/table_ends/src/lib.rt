@@ -13,7 +13,7 @@ use output::expected::{CLOSE_SQUARE, CLOSE_SQUARES};
 use output::message::{UNCLOSED_ARRAY_TABLE, UNCLOSED_TABLE};
 use rules::event::Event;
 use skip_lines::skipping::ignore_to_newline;
-use token::cursor::{Cursor, Sought, Step, Token};
+use token::cursor::{Cursor, Sought, Token};
 use token::kind::Kind;
 use token::span::Span;
 
@@ -71,8 +71,7 @@ pub fn close_table(
     ensures { Goes s.now (closed array head.start close.start close.end (tokens_at s.now c)) c (bufs events.old errors.old m) events.new errors.new result }
 {
     if array {
-        let step = c.next_token_if(s, Kind::RightSquareBracket);
-        let Step::Got(second, past) = step else {
+        let Some((second, past)) = c.next_token_if(s, Kind::RightSquareBracket) else {
             let n = report(
                 errors,
                 m,

@@ -10,7 +10,7 @@ use output::emitting::{Counts, Walk, emit};
 use output::message::INVALID_TABLE;
 use rules::event::Event;
 use table_ends::{close_table, unclosed_table};
-use token::cursor::{Cursor, Step, Token};
+use token::cursor::{Cursor, Token};
 use token::kind::Kind;
 
 // After the opening, of which the first bracket is `head`: the key, and the close.
@@ -35,8 +35,7 @@ fn table_header(
     let w = opt_whitespace(s, behind, j, events, errors);
     let cur = w.cur;
     let n = w.n;
-    let step = cur.next_token_if(s, Kind::RightSquareBracket);
-    let Step::Got(close, past) = step else {
+    let Some((close, past)) = cur.next_token_if(s, Kind::RightSquareBracket) else {
         let valid = k.valid;
         return unclosed_table(s, head, cur, n, array, valid, events, errors);
     };
@@ -55,8 +54,7 @@ pub fn on_table(
     requires { Good s.now c }
     ensures { Goes s.now (on_table head.start head.end (tokens_at s.now c)) c (bufs events.old errors.old m) events.new errors.new result }
 {
-    let step = c.next_token_if(s, Kind::LeftSquareBracket);
-    let Step::Got(second, past) = step else {
+    let Some((second, past)) = c.next_token_if(s, Kind::LeftSquareBracket) else {
         let n = emit(events, m, Event::StdTableOpen, head.start, head.end);
         return table_header(s, head, c, n, false, events, errors);
     };

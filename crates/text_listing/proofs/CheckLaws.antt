@@ -7,7 +7,7 @@ use native.Mathlib.Omega.{arith}
 use lib.ListN.{length, take}
 use lib.Dec.{eqb}
 use borrow.Author.Tests.{eqb-true, eq-eqb, ne_eqb}
-use Rattle.token.specs.declared.checked.Checked.{Checked}
+use Rattle.std.specs.Prelude.{Ok}
 use Rattle.token.specs.Limits.{max_end}
 use Rattle.token.specs.Tokens.{Tok, all_tokens}
 use Rattle.token.specs.Check.{checked}
@@ -56,7 +56,7 @@ module _ (text records events errors : List ℕ) where
     pub tokens_of_lem : all_tokens bytes_of base_of ≡ tokens_of text
     tokens_of_lem = tokens_are text records events errors lexed.answer lexed.buffer refl (lexed_zero z)
 
-    pub passed_of : checked bytes_of base_of ≡ Checked.Passed
+    pub passed_of : checked bytes_of base_of ≡ Ok tt
     passed_of = run_passed checking bytes_of base_of events errors zero_of
 
     -- its mistakes are listed as those of the records
@@ -112,7 +112,7 @@ module _ (text records events errors mistakes : List ℕ) (r : TextAnswer) (reco
     pub check_room : 6 * r.records ≤ length recordsAfter
     check_room = omega (arith, count_is, ap length buffer_is, lexed_room text records lex_is)
 
-    pub check_passes : checked (take (6 * r.records) recordsAfter) r.base ≡ Checked.Passed
+    pub check_passes : checked (take (6 * r.records) recordsAfter) r.base ≡ Ok tt
     check_passes = ap₂ checked bytes_are base_is ∙ passed_of text records events errors zero_is
 
     listing_is : listed_held (all_tokens (take (6 * r.records) recordsAfter) r.base) (run_of read) mistakes ≡ text_listing text read mistakes

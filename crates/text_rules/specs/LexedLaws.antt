@@ -1,14 +1,14 @@
 -- What a text that the lexer did not refuse is: its records stand first in the buffer, are read as its tokens, and pass the check unless they
 -- are too many. Proved; nothing here needs to be believed.
-use Rattle.std.specs.Prelude.{◌≡◌, refl, Bool, true, false, cond, List, [], ◌∷◌, ◌++◌, ℕ, zero, suc, ◌+◌, ◌*◌, ◌/◌, ◌%◌, ◌<◌, ◌≤◌, take, drop, ltb}
+use Rattle.std.specs.Prelude.{◌≡◌, refl, Bool, true, false, cond, List, [], ◌∷◌, ◌++◌, ℕ, zero, suc, ◌+◌, ◌*◌, ◌/◌, ◌%◌, ◌<◌, ◌≤◌, take, drop, ltb, Ok}
 use Rattle.std.proofs.Common.{ap, ◌∙◌, arith, length-append, take_at}
 use Rattle.std.proofs.Math.ListN.{length}
 use borrow.Author.Tests.{ltb-false, lt-ltb, le-ltb, eq-eqb}
-use Rattle.token.specs.declared.checked.Checked.{Checked}
+use Rattle.token.specs.declared.refusal.Refusal.{Refusal}
 use Rattle.token.specs.Limits.{max_records, max_end}
 use Rattle.token.specs.Records.{count}
 use Rattle.token.specs.Tokens.{all_tokens}
-use Rattle.token.specs.Check.{checked}
+use Rattle.token.specs.Check.{checked, refused_for}
 use Rattle.token.specs.Writing.{records_of}
 use Rattle.token.specs.WritingLaws.{records_length}
 use Rattle.utf8_sequences.specs.Utf8.{table, sequence_of, behind_first, valid_from, valid_up_to}
@@ -88,10 +88,10 @@ module _ (text records : List ℕ) (z : (lex_outcome text records).answer.refusa
   pub lexed_tokens : all_tokens (records_left (lex_outcome text records)) (lex_outcome text records).answer.base ≡ tokens_of text
   lexed_tokens = rw (lexed_records, lexed_base) (text_read text (accepted text records z).short)
 
-  pub lexed_passes : (lex_outcome text records).answer.records ≤ max_records → checked (records_left (lex_outcome text records)) (lex_outcome text records).answer.base ≡ Checked.Passed
+  pub lexed_passes : (lex_outcome text records).answer.records ≤ max_records → checked (records_left (lex_outcome text records)) (lex_outcome text records).answer.base ≡ Ok tt
   lexed_passes few = rw (lexed_records, lexed_base) (text_passes text (accepted text records z).short (omega (arith, few, lexed_count)))
 
-  pub lexed_many : max_records < (lex_outcome text records).answer.records → checked (records_left (lex_outcome text records)) (lex_outcome text records).answer.base ≡ Checked.Refused 2 max_records
+  pub lexed_many : max_records < (lex_outcome text records).answer.records → checked (records_left (lex_outcome text records)) (lex_outcome text records).answer.base ≡ refused_for Refusal.Records max_records
   unfolding checked
   lexed_many many =
       let whole : length (records_of (tokens_of text)) % 6 ≡ 0 = omega (arith, records_length (tokens_of text)) in

@@ -1,9 +1,8 @@
 -- Laws of the run over a text: refused as the lexer refused it, else the document entry's run on the records that the lexer left. Proved;
 -- nothing here needs to be believed.
-use Rattle.std.specs.Prelude.{◌≡◌, Bool, true, false, List, ℕ, ◌*◌, ◌≤◌, length, take, eqb}
+use Rattle.std.specs.Prelude.{◌≡◌, Bool, true, false, List, ℕ, ◌*◌, ◌≤◌, length, take, eqb, Ok}
 use Rattle.std.proofs.Math.Path.{ap}
 use Rattle.std.proofs.Common.{sym, subst, ◌∙◌, arith, eq-eqb, ne_eqb}
-use Rattle.token.specs.declared.checked.Checked.{Checked}
 use Rattle.token.specs.Limits.{max_records}
 use Rattle.token.specs.Tokens.{all_tokens}
 use Rattle.token.specs.Check.{checked}
@@ -63,7 +62,7 @@ module _ (text records events errors : List ℕ) (r : Lexed) (after : List ℕ) 
     pub regular_are : Regular (all_tokens bytes r.base)
     regular_are = subst Regular (sym tokens_are) (text_regular text)
 
-    pub few_pass : length (tokens_of text) ≤ max_records → checked bytes r.base ≡ Checked.Passed
+    pub few_pass : length (tokens_of text) ≤ max_records → checked bytes r.base ≡ Ok tt
     few_pass few =
         let h : (lex_outcome text records).answer.records ≤ max_records = omega (arith, lexed_count text records refusal_none, few) in
         ap (λ (y : LexOutcome). checked (records_left y) y.answer.base) e ∙ lexed_passes text records refusal_none h

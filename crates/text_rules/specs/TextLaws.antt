@@ -1,10 +1,10 @@
 -- Laws of the joined entry's outcome: by what the lexer left. Proved; nothing here needs to be believed.
-use Rattle.std.specs.Prelude.{◌≡◌, refl, Bool, true, false, List, ℕ, ◌+◌, ◌*◌, ◌<◌, ◌≤◌, length, take, eqb}
+use Rattle.std.specs.Prelude.{◌≡◌, refl, Bool, true, false, List, ℕ, ◌+◌, ◌*◌, ◌<◌, ◌≤◌, length, take, eqb, Ok}
 use Rattle.std.proofs.Math.Path.{ap}
 use Rattle.std.proofs.Common.{sym, subst, ◌∙◌, eq-eqb, ne_eqb}
-use Rattle.token.specs.declared.checked.Checked.{Checked}
+use Rattle.token.specs.declared.refusal.Refusal.{Refusal}
 use Rattle.token.specs.Limits.{max_records, max_end}
-use Rattle.token.specs.Check.{checked}
+use Rattle.token.specs.Check.{checked, Checked, refused_for}
 use Rattle.rules.specs.declared.answer.Answer.{Answer}
 use Rattle.rules.specs.Entries.{document_entry}
 use Rattle.rules.specs.declared.options.Options.{Options}
@@ -15,7 +15,7 @@ use Rattle.text_rules.specs.TextOutcome.{text_outcome, records_left, reading_by,
 use Rattle.text_rules.specs.LexedLaws.{lexed_room, lexed_few, lexed_passes, lexed_many}
 
 -- a list that has too many records is not read
-too_many_lem : (options : Options) (s : List ℕ) (base : ℕ) (events errors : List ℕ) → checked s base ≡ Checked.Refused 2 max_records
+too_many_lem : (options : Options) (s : List ℕ) (base : ℕ) (events errors : List ℕ) → checked s base ≡ refused_for Refusal.Records max_records
     → outcome options document_entry s base events errors ≡ record { answer = record { refusal = 2; place = max_records; events = 0; errors = 0 }; events = events; errors = errors }
 unfolding outcome
 too_many_lem options s base events errors e = ap (λ (c : Checked). outcome_by c options document_entry s base events errors) e
@@ -49,15 +49,15 @@ module _ (text records events errors : List ℕ) (r : Lexed) (after : List ℕ) 
     text_few = subst (λ (x : LexOutcome). x.answer.records ≤ max_end + 1) (sym e) (lexed_few text records zero_is)
 
     -- and pass, unless they are too many
-    pub text_passes : r.records ≤ max_records → checked (take (6 * r.records) after) r.base ≡ Checked.Passed
+    pub text_passes : r.records ≤ max_records → checked (take (6 * r.records) after) r.base ≡ Ok tt
     text_passes few =
-        subst (λ (x : LexOutcome). x.answer.records ≤ max_records → checked (records_left x) x.answer.base ≡ Checked.Passed) (sym e) (lexed_passes text records zero_is) few
+        subst (λ (x : LexOutcome). x.answer.records ≤ max_records → checked (records_left x) x.answer.base ≡ Ok tt) (sym e) (lexed_passes text records zero_is) few
 
     pub text_many : (options : Options) → max_records < r.records
         → record { answer = record { refusal = 2; place = max_records; base = r.base; records = r.records; events = 0; errors = 0 }; records = after; events = events; errors = errors }
         ≡ text_outcome options text records events errors
     text_many options many =
-        let c = subst (λ (x : LexOutcome). max_records < x.answer.records → checked (records_left x) x.answer.base ≡ Checked.Refused 2 max_records) (sym e) (lexed_many text records zero_is) many in
+        let c = subst (λ (x : LexOutcome). max_records < x.answer.records → checked (records_left x) x.answer.base ≡ refused_for Refusal.Records max_records) (sym e) (lexed_many text records zero_is) many in
         as_read options true _ (eq-eqb _ _ z) (sym (too_many_lem options (take (6 * r.records) after) r.base events errors c))
 
     -- then the answer is the document entry's

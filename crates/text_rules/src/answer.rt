@@ -1,6 +1,7 @@
 // What the joined entry answers.
 
-// The refusal's number (0 if none) and its place; where the tokens start; how many records, events and errors there are.
+// The refusal's number (0 if none) and its place; where the tokens start; how many records, events and errors there are. C gets
+// the number, and `text_room_is_enough` speaks of it.
 #[derive(Clone, Copy)]
 pub struct TextAnswer {
     pub refusal: u32,

@@ -1,5 +1,5 @@
 -- Laws of what the entries from a text begin with. Proved; nothing here needs to be believed.
-use Rattle.std.specs.Prelude.{◌≡◌, List, ℕ, ◌≤◌}
+use Rattle.std.specs.Prelude.{◌≡◌, List, ℕ, ◌≤◌, Result, Ok, Err}
 use Rattle.std.proofs.Common.{ap, sym, subst, ◌∙◌}
 use Rattle.token.specs.Limits.{max_records}
 use Rattle.rules.specs.declared.options.Options.{Options}
@@ -8,8 +8,6 @@ use Rattle.lex.specs.declared.Lexed.{Lexed}
 use Rattle.lex.specs.Lexed.{lex_outcome}
 use Rattle.text_rules.specs.declared.answer.TextAnswer.{TextAnswer}
 use Rattle.text_rules.specs.TextOutcome.{TextAnswers}
-use Rattle.text_steps.specs.declared.entry.TextBegun.{TextBegun}
-use Rattle.text_steps.specs.declared.verdict.VerdictBegun.{VerdictBegun}
 use Rattle.text_steps.specs.TextVerdicts.{JudgesText}
 use Rattle.text_steps.specs.Begun.{Readable, BeginsText, BeginsVerdict}
 
@@ -23,16 +21,16 @@ readable {text} {records} {after} {r} e z h =
     }
 
 -- by the case that it is
-module _ (text records after : List ℕ) {b : TextBegun} (x : BeginsText text records after b) where
-  pub text_not_read : {r : TextAnswer} → b ≡ TextBegun.Refused r → (options : Options) (events errors : List ℕ) → TextAnswers options text records events errors after events errors r
+module _ (text records after : List ℕ) {b : Result (ℕ × ℕ) TextAnswer} (x : BeginsText text records after b) where
+  pub text_not_read : {r : TextAnswer} → b ≡ Err r → (options : Options) (events errors : List ℕ) → TextAnswers options text records events errors after events errors r
   text_not_read e = subst (BeginsText text records after) e x
 
-  pub text_to_read : {base count : ℕ} → b ≡ TextBegun.Read base count → Readable text records after base count
+  pub text_to_read : {base count : ℕ} → b ≡ Ok (base, count) → Readable text records after base count
   text_to_read e = subst (BeginsText text records after) e x
 
-module _ (text records after : List ℕ) {b : VerdictBegun} (x : BeginsVerdict text records after b) where
-  pub text_not_judged : {v : Verdict} → b ≡ VerdictBegun.Unjudged v → (events : List ℕ) → JudgesText text records events after events v
+module _ (text records after : List ℕ) {b : Result (ℕ × ℕ) Verdict} (x : BeginsVerdict text records after b) where
+  pub text_not_judged : {v : Verdict} → b ≡ Err v → (events : List ℕ) → JudgesText text records events after events v
   text_not_judged e = subst (BeginsVerdict text records after) e x
 
-  pub text_to_judge : {base count : ℕ} → b ≡ VerdictBegun.Judge base count → Readable text records after base count
+  pub text_to_judge : {base count : ℕ} → b ≡ Ok (base, count) → Readable text records after base count
   text_to_judge e = subst (BeginsVerdict text records after) e x

@@ -6,16 +6,11 @@ use lex::lex;
 use rules::answer::Answer;
 use text_rules::answer::TextAnswer;
 use token::checked::MAX_RECORDS;
+use token::refusal::Refusal;
 
-// The answer to a text that is not read; else where its tokens start, and how many records are to be read.
-#[derive(Clone, Copy)]
-pub enum TextBegun {
-    Refused(TextAnswer),
-    Read(u32, usize),
-}
-
-// Lexes. The records are the lexer's and pass the check, but that there may be too many: so only they are counted.
-pub fn begin_text(text: &[u8], records: &mut [u8]) -> TextBegun
+// Lexes: where the tokens of a text start, and how many records are to be read; or the answer to a text that is not read. The records are the lexer's
+// and pass the check, but that there may be too many: so only they are counted.
+pub fn begin_text(text: &[u8], records: &mut [u8]) -> Result<(u32, usize), TextAnswer>
     ensures { BeginsText text.now records.old records.new result }
 {
     let lexed = lex(text, records);
@@ -24,7 +19,7 @@ pub fn begin_text(text: &[u8], records: &mut [u8]) -> TextBegun
     let base = lexed.base;
     let count = lexed.records;
     if refusal != 0 {
-        return TextBegun::Refused(TextAnswer {
+        return Err(TextAnswer {
             refusal,
             place,
             base,
@@ -34,8 +29,8 @@ pub fn begin_text(text: &[u8], records: &mut [u8]) -> TextBegun
         });
     }
     if MAX_RECORDS < count {
-        return TextBegun::Refused(TextAnswer {
-            refusal: 2,
+        return Err(TextAnswer {
+            refusal: Refusal::Records as u32,
             place: MAX_RECORDS,
             base,
             records: count,
@@ -43,7 +38,7 @@ pub fn begin_text(text: &[u8], records: &mut [u8]) -> TextBegun
             errors: 0,
         });
     }
-    TextBegun::Read(base, count)
+    Ok((base, count))
 }
 
 // The answer of the run with where the tokens start and how many records there are.

@@ -5,7 +5,7 @@ ghost use Rattle.text_rules.specs.TextOutcome.{TextAnswers};
 use entries::entries::read_document;
 use rules::options::Options;
 use text_rules::answer::TextAnswer;
-use text_steps::entry::{TextBegun, begin_text, text_answer};
+use text_steps::entry::{begin_text, text_answer};
 
 // Lexes, then reads.
 pub fn parse_text(
@@ -17,10 +17,9 @@ pub fn parse_text(
 ) -> TextAnswer
     ensures { TextAnswers options text.now records.old events.old errors.old records.new events.new errors.new result }
 {
-    let begun = begin_text(text, records);
-    match begun {
-        TextBegun::Refused(answer) => answer,
-        TextBegun::Read(base, count) => {
+    match begin_text(text, records) {
+        Err(answer) => answer,
+        Ok((base, count)) => {
             let size = 6 * count;
             let read = read_document(&records[..size], base, options, events, errors);
             text_answer(base, count, read)

@@ -2,7 +2,7 @@
 ghost use Rattle.text_steps.specs.TextVerdicts.{JudgesText};
 
 use judging::verdict::Verdict;
-use text_steps::verdict::{VerdictBegun, begin_verdict};
+use text_steps::verdict::begin_verdict;
 use verdicts::known::judge;
 
 // Whether the text's tokens fit; and if it was not judged, the refusal's number and its place, else 0 and 0. A text that was lexed is judged by
@@ -10,10 +10,9 @@ use verdicts::known::judge;
 pub fn text_fits(text: &[u8], records: &mut [u8], events: &mut [u32]) -> Verdict
     ensures { JudgesText text.now records.old events.old records.new events.new result }
 {
-    let begun = begin_verdict(text, records);
-    match begun {
-        VerdictBegun::Unjudged(verdict) => verdict,
-        VerdictBegun::Judge(base, count) => {
+    match begin_verdict(text, records) {
+        Err(verdict) => verdict,
+        Ok((base, count)) => {
             let size = 6 * count;
             judge(&records[..size], base, events)
         }

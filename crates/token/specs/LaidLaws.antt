@@ -1,16 +1,16 @@
 -- Tokens that lie end to end, written as records, are read again and pass the check. Proved; nothing here needs to be believed.
-use Rattle.std.specs.Prelude.{◌≡◌, refl, true, ℕ, zero, suc, ◌+◌, ◌-◌, ◌%◌, ◌≤◌, length}
+use Rattle.std.specs.Prelude.{◌≡◌, refl, true, ℕ, zero, suc, ◌+◌, ◌-◌, ◌%◌, ◌≤◌, length, Option, Some, None, Ok, Err}
 use Rattle.std.proofs.Math.Path.{ap}
 use Rattle.std.proofs.Common.{sym, subst, ◌∙◌, arith, le-ltb, eq-eqb, le-leb}
 use mathlib.Core.List.{List, ◌∷◌, ◌++◌}
 use Rattle.token.specs.declared.kind.Kind.{Kind}
-use Rattle.token.specs.declared.checked.Checked.{Checked}
+use Rattle.token.specs.declared.refusal.Refusal.{Refusal}
 use Rattle.token.specs.Limits.{max_records, max_end}
 use Rattle.token.specs.Kinds.{Width, one_byte, no_byte, some_bytes, number_of, kind_of, width_of, width_fits}
 use Rattle.token.specs.KindLaws.{kind_back, number_range}
 use Rattle.token.specs.Records.{count, length_at, kind_number_at, kind_at}
 use Rattle.token.specs.Tokens.{Tok, tok, tokens_from, all_tokens}
-use Rattle.token.specs.Check.{record_refusal, refused_at, checked_from, checked}
+use Rattle.token.specs.Check.{Checked, record_refusal, refused_at, checked_from, checked}
 use Rattle.token.specs.CheckLaws.{checked_records}
 use Rattle.token.specs.Laid.{Spans, Laid, laid_none, laid_token, end_of}
 use Rattle.token.specs.Writing.{record_of, records_of}
@@ -59,7 +59,7 @@ module _ (k : Kind) (p e : ℕ) (s : List ℕ) (h : Spans (width_of k) p e) (l :
   fits_width some_bytes x = le-leb 1 (e - p) (omega (arith, x))
 
   -- and passes
-  record_passes : record_refusal (number_of k) (e - p) e ≡ 0
+  record_passes : record_refusal (number_of k) (e - p) e ≡ None
   record_passes = simp (le-ltb _ _ (number_range k).0, le-ltb _ _ (number_range k).1, kind_back k, fits_width (width_of k) h, le-ltb _ _ l)
 
   pub pass_first : (n : ℕ) → checked_from (suc n) bytes 0 p ≡ checked_from n bytes 1 e
@@ -68,18 +68,18 @@ module _ (k : Kind) (p e : ℕ) (s : List ℕ) (h : Spans (width_of k) p e) (l :
       ap (λ (m : ℕ). refused_at (record_refusal m (length_at bytes 0) (p + length_at bytes 0)) 0 (checked_from n bytes 1 (p + length_at bytes 0))) number_here
       ∙ ap (λ (m : ℕ). refused_at (record_refusal (number_of k) m (p + m)) 0 (checked_from n bytes 1 (p + m))) length_here
       ∙ ap (λ (m : ℕ). refused_at (record_refusal (number_of k) (e - p) m) 0 (checked_from n bytes 1 m)) ends_here
-      ∙ ap (λ (m : ℕ). refused_at m 0 (checked_from n bytes 1 e)) record_passes
+      ∙ ap (λ (r : Option Refusal). refused_at r 0 (checked_from n bytes 1 e)) record_passes
 
 -- what passes by itself passes behind a record
 abbrev IsPassed : Checked → Type 0
-IsPassed Checked.Passed = Unit {0}
-IsPassed (Checked.Refused r i) = ⊥
+IsPassed (Ok u) = Unit {0}
+IsPassed (Err e) = ⊥
 
-passes_on : (r i j : ℕ) (rest rest' : Checked) → (rest ≡ Checked.Passed → rest' ≡ Checked.Passed) → refused_at r i rest ≡ Checked.Passed → refused_at r j rest' ≡ Checked.Passed
-passes_on zero i j rest rest' f e = f e
-passes_on (suc r) i j rest rest' f e = absurd (subst IsPassed (sym e) tt)
+passes_on : (r : Option Refusal) (i j : ℕ) (rest rest' : Checked) → (rest ≡ Ok tt → rest' ≡ Ok tt) → refused_at r i rest ≡ Ok tt → refused_at r j rest' ≡ Ok tt
+passes_on None i j rest rest' f e = f e
+passes_on (Some r) i j rest rest' f e = absurd (subst IsPassed (sym e) tt)
 
-pass_behind : (l k : ℕ) (s : List ℕ) (m i p : ℕ) → checked_from m s i p ≡ Checked.Passed → checked_from m (record_of l k ++ s) (suc i) p ≡ Checked.Passed
+pass_behind : (l k : ℕ) (s : List ℕ) (m i p : ℕ) → checked_from m s i p ≡ Ok tt → checked_from m (record_of l k ++ s) (suc i) p ≡ Ok tt
 unfolding checked_from
 pass_behind l k s zero i p e = refl
 pass_behind l k s (suc m) i p e =
@@ -93,7 +93,7 @@ tokens_back laid_none h = refl
 tokens_back (laid_token {k} {p} {e} {ts} s x) h =
     read_first k p e (records_of ts) s (omega (arith, h, end_up x)) (length ts) ∙ ap (λ (us : List Tok). tok k p e ∷ us) (tokens_back x h)
 
-check_back : {p : ℕ} {ts : List Tok} → Laid p ts → end_of p ts ≤ max_end → checked_from (length ts) (records_of ts) 0 p ≡ Checked.Passed
+check_back : {p : ℕ} {ts : List Tok} → Laid p ts → end_of p ts ≤ max_end → checked_from (length ts) (records_of ts) 0 p ≡ Ok tt
 unfolding checked_from records_of
 check_back laid_none h = refl
 check_back (laid_token {k} {p} {e} {ts} s x) h =
@@ -108,7 +108,7 @@ unfolding all_tokens
 read_back {p} {ts} x h = ap (λ (n : ℕ). tokens_from n (records_of ts) 0 p) (records_count ts) ∙ tokens_back x h
 
 -- and the records pass the check, if they are not too many
-pub pass_back : {p : ℕ} {ts : List Tok} → Laid p ts → end_of p ts ≤ max_end → length ts ≤ max_records → checked (records_of ts) p ≡ Checked.Passed
+pub pass_back : {p : ℕ} {ts : List Tok} → Laid p ts → end_of p ts ≤ max_end → length ts ≤ max_records → checked (records_of ts) p ≡ Ok tt
 pass_back {p} {ts} x h few =
     let whole : length (records_of ts) % 6 ≡ 0 = omega (arith, records_length ts) in
     let many : count (records_of ts) ≤ max_records = omega (arith, records_count ts, few) in

@@ -4,6 +4,7 @@ pub mod Spans
 pub mod Records
 pub mod Tokens
 pub mod Search
+pub mod Refusals
 pub mod Check
 pub mod Laid
 pub mod KindLaws

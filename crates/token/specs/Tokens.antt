@@ -1,10 +1,8 @@
 -- The tokens that record bytes stand for, from a cursor on; and a cursor's promises in their words. Assumes nothing.
-use Rattle.std.specs.Prelude.{◌≡◌, Bool, false, List, [], ◌∷◌, ℕ, zero, suc, ◌+◌, ◌-◌, ◌<◌, ◌≤◌, eqb}
+use Rattle.std.specs.Prelude.{◌≡◌, Bool, false, List, [], ◌∷◌, ℕ, Option, Some, None, zero, suc, ◌+◌, ◌-◌, ◌<◌, ◌≤◌, eqb}
 use Rattle.token.specs.declared.kind.Kind.{Kind}
 use Rattle.token.specs.declared.cursor.Token.{Token}
 use Rattle.token.specs.declared.cursor.Cursor.{Cursor}
-use Rattle.token.specs.declared.cursor.Step.{Step}
-use Rattle.token.specs.declared.cursor.Seen.{Seen}
 use Rattle.token.specs.Limits.{max_end}
 use Rattle.token.specs.Kinds.{number_of}
 use Rattle.token.specs.Records.{count, length_at, kind_at, start_at}
@@ -47,18 +45,18 @@ pub record Took (s : List ℕ) (c : Cursor) (t : Token) (d : Cursor) : Type 0 wh
   pub good : Good s d
 
 -- `next`: a token that was read, or no token is left
-abbrev pub Next : List ℕ → Cursor → Step → Type 0
-Next s c (Step.Got t d) = Took s c t d
-Next s c Step.Done = tokens_at s c ≡ []
+abbrev pub Next : List ℕ → Cursor → Option (Token × Cursor) → Type 0
+Next s c (Some (t, d)) = Took s c t d
+Next s c None = tokens_at s c ≡ []
 
 -- `peek`: the same without the cursor past it
 pub record Sees (s : List ℕ) (c : Cursor) (t : Token) : Type 0 where
   pub past : Cursor
   pub took : Took s c t past
 
-abbrev pub Peek : List ℕ → Cursor → Seen → Type 0
-Peek s c (Seen.Token t) = Sees s c t
-Peek s c Seen.Nothing = tokens_at s c ≡ []
+abbrev pub Peek : List ℕ → Cursor → Option Token → Type 0
+Peek s c (Some t) = Sees s c t
+Peek s c None = tokens_at s c ≡ []
 
 -- does the list start with a token of the kind?
 abbrev pub starts_with : Kind → List Tok → Bool
@@ -66,9 +64,9 @@ starts_with k [] = false
 starts_with k (tok j a b ∷ ts) = eqb (number_of j) (number_of k)
 
 -- `next_token_if`: a token of the kind that was read, or the list does not start with one
-abbrev pub NextIf : List ℕ → Cursor → Kind → Step → Type 0
-NextIf s c k (Step.Got t d) = (t.kind ≡ k) × Took s c t d
-NextIf s c k Step.Done = starts_with k (tokens_at s c) ≡ false
+abbrev pub NextIf : List ℕ → Cursor → Kind → Option (Token × Cursor) → Type 0
+NextIf s c k (Some (t, d)) = (t.kind ≡ k) × Took s c t d
+NextIf s c k None = starts_with k (tokens_at s c) ≡ false
 
 -- `back`: d is one record before c
 pub record Back (s : List ℕ) (c d : Cursor) : Type 0 where

@@ -2,7 +2,7 @@
 ghost use Rattle.std.specs.Prelude.{◌<◌};
 ghost use Rattle.token.specs.Tokens.{Good, At, Next, NextIf, Peek, Back};
 
-use crate::kind::{Kind, number_of};
+use crate::kind::Kind;
 use crate::record::{kind_at, length_at};
 
 #[derive(Clone, Copy)]
@@ -18,20 +18,6 @@ pub struct Cursor {
     pub at: usize,
     pub place: u32,
     pub base: u32,
-}
-
-// A token and the cursor past it, or the end of the list.
-#[derive(Clone, Copy)]
-pub enum Step {
-    Got(Token, Cursor),
-    Done,
-}
-
-// A token that was looked at and not taken.
-#[derive(Clone, Copy)]
-pub enum Seen {
-    Token(Token),
-    Nothing,
 }
 
 // What a search backward looks for: a token that is no Whitespace, Comment, Newline or Eof; a Comma; one that is no Whitespace.
@@ -54,15 +40,15 @@ impl Cursor {
         }
     }
 
-    // The next token, and the cursor past it.
-    pub fn next(self, s: &[u8]) -> Step
+    // The next token, and the cursor past it; none at the end of the list.
+    pub fn next(self, s: &[u8]) -> Option<(Token, Cursor)>
         requires { Good s.now self }
         ensures { Next s.now self result }
     {
         let at = self.at;
         if at < s.len() / 6 {
             let end = self.place + length_at(s, at);
-            Step::Got(
+            Some((
                 Token {
                     kind: kind_at(s, at),
                     start: self.place,
@@ -73,38 +59,35 @@ impl Cursor {
                     place: end,
                     base: self.base,
                 },
-            )
+            ))
         } else {
-            Step::Done
+            None
         }
     }
 
     // The next token, which is not taken.
-    pub fn peek(self, s: &[u8]) -> Seen
+    pub fn peek(self, s: &[u8]) -> Option<Token>
         requires { Good s.now self }
         ensures { Peek s.now self result }
     {
-        let step = self.next(s);
-        let Step::Got(t, _) = step else {
-            return Seen::Nothing;
+        let Some((t, _)) = self.next(s) else {
+            return None;
         };
-        Seen::Token(t)
+        Some(t)
     }
 
     // The next token if it is of the kind.
-    pub fn next_token_if(self, s: &[u8], kind: Kind) -> Step
+    pub fn next_token_if(self, s: &[u8], kind: Kind) -> Option<(Token, Cursor)>
         requires { Good s.now self }
         ensures { NextIf s.now self kind result }
     {
-        let step = self.next(s);
-        let Step::Got(t, past) = step else {
-            return Step::Done;
+        let Some((t, past)) = self.next(s) else {
+            return None;
         };
-        let k = t.kind;
-        if number_of(k) == number_of(kind) {
-            Step::Got(t, past)
+        if t.kind == kind {
+            Some((t, past))
         } else {
-            Step::Done
+            None
         }
     }
 

@@ -2,9 +2,9 @@
 ghost use Rattle.std.specs.Prelude.{◌≡◌};
 ghost use Rattle.token.specs.Kinds.{kind_of, number_of};
 
-#[derive(Clone, Copy)]
+#[derive(Clone, Copy, PartialEq, Eq)]
 pub enum Kind {
-    Dot,
+    Dot = 1,
     Equals,
     Comma,
     LeftSquareBracket,
@@ -59,22 +59,5 @@ pub fn kind_of(number: u32) -> Kind
 pub fn number_of(kind: Kind) -> usize
     ensures { result ≡ number_of kind }
 {
-    match kind {
-        Kind::Dot => 1,
-        Kind::Equals => 2,
-        Kind::Comma => 3,
-        Kind::LeftSquareBracket => 4,
-        Kind::RightSquareBracket => 5,
-        Kind::LeftCurlyBracket => 6,
-        Kind::RightCurlyBracket => 7,
-        Kind::Whitespace => 8,
-        Kind::Comment => 9,
-        Kind::Newline => 10,
-        Kind::LiteralString => 11,
-        Kind::BasicString => 12,
-        Kind::MlLiteralString => 13,
-        Kind::MlBasicString => 14,
-        Kind::Atom => 15,
-        Kind::Eof => 16,
-    }
+    kind as usize
 }

@@ -5,4 +5,5 @@ pub mod checked;
 pub mod cursor;
 pub mod kind;
 pub mod record;
+pub mod refusal;
 pub mod span;

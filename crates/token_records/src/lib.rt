@@ -4,11 +4,11 @@
 ghost use Rattle.std.specs.Prelude.{◌≡◌, ℕ, ◌+◌, ◌*◌, ◌<◌, ◌≤◌, length, get_or};
 ghost use Rattle.token.specs.Writing.{put_at};
 ghost use Rattle.scan.specs.Bytes.{space, quotation_mark, apostrophe};
-ghost use Rattle.scan.specs.Codes.{code_table};
 ghost use Rattle.token_records.specs.Put.{Put};
 
-use byte_codes::codes::whitespace_ends;
+use byte_codes::table::Codes;
 use one_token::lexer::process_token;
+use scan::lexer::Found;
 use scan::sets::lex_whitespace;
 use strings::basic::lex_basic_string;
 use strings::literal::lex_literal_string;
@@ -34,15 +34,14 @@ pub fn put_any(text: &[u8], at: usize, records: &mut [u8], out: usize) -> usize
     requires out_in_bounds { out + 6 ≤ length records.old }
     ensures { Put text.now at records.old out records.new result }
 {
-    let list = text;
-    let found = process_token(list, at);
-    let end = found.end;
-    let kind = found.kind;
+    let Found { end, kind } = process_token(text, at);
     put(records, out, end - at, number_of(kind));
     end
 }
 
-// One that starts with a quotation mark.
+// One that starts with a quotation mark. This and the next stay two: one function would take the quote, the kind, the class and the way to the
+// end, and say all four in its contract.
+#[tactic(auto, using(crate::specs::PutLaws::put_is, scan::specs::CodeLaws::quotation_mark_start, scan::specs::TokenLaws::basic_is))]
 pub fn put_basic(text: &[u8], at: usize, records: &mut [u8], out: usize) -> usize
     requires at_in_bounds { at < length text.now }
     requires out_in_bounds { out + 6 ≤ length records.old }
@@ -58,6 +57,7 @@ pub fn put_basic(text: &[u8], at: usize, records: &mut [u8], out: usize) -> usiz
 }
 
 // One that starts with an apostrophe.
+#[tactic(auto, using(crate::specs::PutLaws::put_is, scan::specs::CodeLaws::apostrophe_start, scan::specs::TokenLaws::literal_is))]
 pub fn put_literal(text: &[u8], at: usize, records: &mut [u8], out: usize) -> usize
     requires at_in_bounds { at < length text.now }
     requires out_in_bounds { out + 6 ≤ length records.old }
@@ -73,14 +73,20 @@ pub fn put_literal(text: &[u8], at: usize, records: &mut [u8], out: usize) -> us
 }
 
 // One that starts with a space.
-pub fn put_whitespace(text: &[u8], codes: &[u8], at: usize, records: &mut [u8], out: usize) -> usize
+#[tactic(auto, using(crate::specs::PutLaws::put_is, scan::specs::CodeLaws::space_start))]
+pub fn put_whitespace(
+    text: &[u8],
+    codes: &Codes,
+    at: usize,
+    records: &mut [u8],
+    out: usize,
+) -> usize
     requires at_in_bounds { at < length text.now }
-    requires codes_value { codes.now ≡ code_table }
     requires out_in_bounds { out + 6 ≤ length records.old }
     requires at_value { get_or text.now at 0 ≡ space }
     ensures { Put text.now at records.old out records.new result }
 {
-    if whitespace_ends(text, codes, at + 1) {
+    if codes.whitespace_ends(text, at + 1) {
         put(records, out, 1, number_of(Kind::Whitespace));
         return at + 1;
     }

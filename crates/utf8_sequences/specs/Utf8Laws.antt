@@ -1,10 +1,12 @@
 -- Laws of well-formed UTF-8. Proved; nothing here needs to be believed.
-use Rattle.std.specs.Prelude.{◌≡◌, refl, Bool, true, false, cond, ◌&&◌, ℕ, zero, suc, ◌+◌, ◌-◌, ◌<◌, ◌≤◌, length, drop, get_or, leb}
+use Rattle.std.specs.Prelude.{◌≡◌, refl, Bool, true, false, cond, ◌&&◌, ℕ, zero, suc, ◌+◌, ◌<◌, ◌≤◌, length, drop, get_or, leb}
 use Rattle.std.proofs.Math.Path.{ap}
 use Rattle.std.proofs.Common.{sym, ◌∙◌, length-drop, drop_of_length-le, drop-drop, le-leb, leb-true, leb-false}
 use Rattle.std.proofs.lemmas.Bool.{false≢true, lt-leb}
 use mathlib.Core.List.{List, [], ◌∷◌}
 use native.Mathlib.Omega.{arith}
+use Rattle.std.specs.Char.{is_ascii as ascii_byte}
+use borrow.Author.Tests.{lt-ltb, le-ltb}
 use Rattle.places.specs.Places.{peeks, all_of, Passed}
 use Rattle.places.specs.PlaceLaws.{here, peeks_here, peeks_out, Still, begun, onward, all_first, all_none, passed_on, passed_still}
 use Rattle.utf8_sequences.specs.Utf8.{Range, from, within, tail, table, fits, sequence_of, behind_first, valid_from, valid_up_to}
@@ -147,10 +149,18 @@ sequence_by s i h = ap (sequence_of table) (here s i h)
 pub some_within : (s : List ℕ) (i : ℕ) → i < length s → (n : ℕ) → n ≡ sequence_of table (drop i s) → i + n ≤ length s
 some_within s i h n e = let l = sequence_short table (drop i s) in omega (arith, l, e, length-drop i s, h)
 
+-- the library's word for it
+pub ascii_is : (b : ℕ) → ascii_byte b ≡ is_ascii b
+ascii_is b = by_test (leb b 127) refl
+  where
+    by_test : (t : Bool) → leb b 127 ≡ t → ascii_byte b ≡ t
+    by_test true q = let h = leb-true b 127 q in lt-ltb b 128 (omega (arith, h))
+    by_test false q = let h = leb-false b 127 q in le-ltb b 128 (omega (arith, h))
+
 -- one ASCII byte more
-pub ascii_passed : {s : List ℕ} {at i : ℕ} → Passed is_ascii s at i → i < length s → get_or s i 0 < 128 → Passed is_ascii s at (i + 1)
+pub ascii_passed : {s : List ℕ} {at i : ℕ} → Passed is_ascii s at i → i < length s → ascii_byte (get_or s i 0) ≡ true → Passed is_ascii s at (i + 1)
 ascii_passed {s} {at} {i} x l h =
-    let e : is_ascii (get_or s i 0) ≡ true = le-leb (get_or s i 0) 127 (omega (arith, h)) in
+    let e : is_ascii (get_or s i 0) ≡ true = sym (ascii_is _) ∙ h in
     passed_on x 1 (i + 1) refl (omega (arith, l)) (ap (all_of is_ascii 1) (here s i l) ∙ all_first is_ascii 0 (get_or s i 0) (drop (i + 1) s) ∙ rw (e, all_none is_ascii (drop (i + 1) s)))
 
 -- the loop over the text

@@ -17,8 +17,7 @@ use Rattle.output.specs.Pour.{Bufs, pour}
 use Rattle.output.specs.Walks.{End, run}
 use Rattle.output.specs.WalkLaws.{Looped, rule_at, by_rule}
 use Rattle.flat_values.specs.Flat.{flat_value}
-use Rattle.nest.specs.declared.nest.NestWalk.{NestWalk}
-use Rattle.nest.specs.Nested.{out_of, Nested}
+use Rattle.nest.specs.Nested.{NestWalk, walk_of, is_stopped, out_of, Nested}
 
 module _ (s : List ℕ) (c d : Cursor) (t : Token) (k : Took s c t d) (x y : InValue) (p : x ≡ in_value t.kind) (q : x ≡ y) where
   -- a value, by what the kind is where one is wanted
@@ -53,7 +52,7 @@ pub finish_nested : {s : List ℕ} {now start : Out} {o o₀ : Bufs} {cur cur₀
 unfolding run
 finish_nested {s} {start = start} {o₀ = o₀} {cur₀ = cur₀} inv {a = a} {b} {v} e h q y =
     record {
-      wrote = λ base p. subst (λ (u : ℕ). out_of v.stopped s a b v.n v.cur ≡ pour (all_tokens s u) start.items o₀) p (y.wrote cur₀.base (q ∙ inv.base) ∙ ap (λ (x : End). x.out) (sym e ∙ inv.same));
+      wrote = λ base p. subst (λ (u : ℕ). out_of (is_stopped v) s a b (walk_of v).n (walk_of v).cur ≡ pour (all_tokens s u) start.items o₀) p (y.wrote cur₀.base (q ∙ inv.base) ∙ ap (λ (x : End). x.out) (sym e ∙ inv.same));
       rest = λ f. y.rest f ∙ ap (λ (x : End). x.rest) (sym e ∙ inv.same);
       good = y.good;
       on = omega (arith, h, y.on, inv.on);

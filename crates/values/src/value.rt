@@ -7,7 +7,7 @@ ghost use Rattle.nest.specs.Nested.{Nested};
 use classes::value::in_value;
 use flat_values::flat_value;
 use key_spaces::nothing_left;
-use nest::nest::{NestWalk, on_array_open, on_inline_table_open, unstopped};
+use nest::nest::{TooDeep, on_array_open, on_inline_table_open};
 use output::emitting::{Counts, Walk, emit, report_at};
 use output::expected::{A_VALUE, NOTHING};
 use output::message::{EXTRA_EQUALS, MISSING_VALUE};
@@ -15,7 +15,7 @@ use rules::event::Event;
 use rules::options::Settings;
 use rules::value::InValue;
 use scalars::scalar::on_scalar;
-use token::cursor::{Cursor, Step};
+use token::cursor::Cursor;
 
 // In the Rust value calls itself at an `=`; a list of them would take a frame each, so here it is a loop.
 pub fn value(
@@ -25,18 +25,13 @@ pub fn value(
     settings: Settings,
     events: &mut [u32],
     errors: &mut [u32],
-) -> NestWalk
+) -> Result<Walk, TooDeep>
     requires { Good s.now c }
     ensures { Nested s.now (value settings.levels (tokens_at s.now c)) c (bufs events.old errors.old m) events.new errors.new result }
 {
     let mut cur = c;
     let mut n = m;
-    loop {
-        let step = cur.next(s);
-        let Step::Got(t, past) = step else {
-            n = nothing_left(s, cur, n, MISSING_VALUE, A_VALUE, errors);
-            return unstopped(Walk { cur, n });
-        };
+    while let Some((t, past)) = cur.next(s) {
         let k = t.kind;
         let x = in_value(k);
         match x {
@@ -53,10 +48,12 @@ pub fn value(
             }
             _ => {
                 let w = flat_value(s, x, t, cur, past, n, events, errors);
-                return unstopped(w);
+                return Ok(w);
             }
         }
     }
+    n = nothing_left(s, cur, n, MISSING_VALUE, A_VALUE, errors);
+    Ok(Walk { cur, n })
 }
 
 // A value as `value` reads it, the usual cases first: `{`, `[` and a scalar. It has one call site, so that it is compiled into its
@@ -68,38 +65,32 @@ pub fn usual_value(
     settings: Settings,
     events: &mut [u32],
     errors: &mut [u32],
-) -> NestWalk
+) -> Result<Walk, TooDeep>
     requires { Good s.now c }
     ensures { Nested s.now (value settings.levels (tokens_at s.now c)) c (bufs events.old errors.old m) events.new errors.new result }
 {
-    let step = c.next(s);
-    match step {
-        Step::Got(t, past) => {
-            let k = t.kind;
-            let x = in_value(k);
-            match x {
-                InValue::OpenCurly => {
-                    let list = s;
-                    let head = t;
-                    let from = past;
-                    let sofar = m;
-                    return on_inline_table_open(list, head, from, sofar, settings, events, errors);
-                }
-                InValue::OpenSquare => {
-                    let list = s;
-                    let head = t;
-                    let from = past;
-                    let sofar = m;
-                    return on_array_open(list, head, from, sofar, settings, events, errors);
-                }
-                InValue::Scalar => {
-                    let w = on_scalar(s, t, past, m, events, errors);
-                    return unstopped(w);
-                }
-                _ => {}
+    if let Some((t, past)) = c.next(s) {
+        match in_value(t.kind) {
+            InValue::OpenCurly => {
+                let list = s;
+                let head = t;
+                let from = past;
+                let sofar = m;
+                return on_inline_table_open(list, head, from, sofar, settings, events, errors);
             }
+            InValue::OpenSquare => {
+                let list = s;
+                let head = t;
+                let from = past;
+                let sofar = m;
+                return on_array_open(list, head, from, sofar, settings, events, errors);
+            }
+            InValue::Scalar => {
+                let w = on_scalar(s, t, past, m, events, errors);
+                return Ok(w);
+            }
+            _ => {}
         }
-        Step::Done => {}
     }
     let list = s;
     let from = c;

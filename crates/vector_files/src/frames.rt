@@ -1,22 +1,55 @@
 // Frames of vectors.bin, read in turn. Words have four bytes, the lowest first.
-ghost use Rattle.std.specs.Prelude.{◌+◌, ◌<◌, ◌≤◌, length};
+ghost use Rattle.std.specs.Prelude.{◌≡◌, IfOk, length};
+ghost use Rattle.vector_files.specs.Padded.{ReadsPadded};
 
+use rules::answer::Answer;
+use std::io;
 use std::io::Read;
 
-// A list at an entry with its room, and what the oracle answers.
+// The file has not what it must have, or cannot be read.
+#[derive(Clone, Copy, Debug, PartialEq, Eq)]
+pub struct Broken;
+
+impl From<io::Error> for Broken {
+    fn from(_error: io::Error) -> Self {
+        Broken
+    }
+}
+
+// Where a list is parsed. The numbers are those that ENTRIES of oracle/src/walk.rs gives.
+#[derive(Clone, Copy, Debug, PartialEq, Eq)]
+pub enum Entry {
+    Document,
+    Key,
+    SimpleKey,
+    Value,
+}
+
+impl TryFrom<u32> for Entry {
+    type Error = Broken;
+
+    fn try_from(number: u32) -> Result<Self, Broken> {
+        match number {
+            0 => Ok(Entry::Document),
+            1 => Ok(Entry::Key),
+            2 => Ok(Entry::SimpleKey),
+            3 => Ok(Entry::Value),
+            _ => Err(Broken),
+        }
+    }
+}
+
+// A list at an entry with its room, what the oracle answers, and how many words it writes.
 #[derive(Clone, Copy)]
 pub struct Case {
-    pub entry: u32,
+    pub entry: Entry,
     pub base: u32,
     pub bytes: u32,
-    pub event_room: u32,
-    pub error_room: u32,
-    pub refusal: u32,
-    pub place: u32,
-    pub events: u32,
-    pub errors: u32,
-    pub event_words: u32,
-    pub error_words: u32,
+    pub event_room: usize,
+    pub error_room: usize,
+    pub answer: Answer,
+    pub event_words: usize,
+    pub error_words: usize,
 }
 
 #[derive(Clone, Copy)]
@@ -27,89 +60,63 @@ pub enum Frame {
     Case(Case),
     // The name of the class that begins, of so many bytes, which are still to be read.
     Note(u32),
-    Broken,
 }
 
-fn wide(byte: u8) -> u32
-    ensures { result < 256 }
+fn read_array<const N: usize>(file: &mut impl Read) -> Result<[u8; N], Broken> {
+    let mut bytes = [0; N];
+    file.read_exact(&mut bytes)?;
+    Ok(bytes)
+}
+
+pub(crate) fn read_word(file: &mut impl Read) -> Result<u32, Broken> {
+    Ok(u32::from_le_bytes(read_array(file)?))
+}
+
+fn read_size(file: &mut impl Read) -> Result<usize, Broken> {
+    Ok(read_word(file)? as usize)
+}
+
+// Reads so many bytes, which fill whole words in the file, into the buffer, and answers with them.
+pub fn read_bytes<'a, R: Read>(
+    file: &mut R,
+    buffer: &'a mut [u8],
+    bytes: u32,
+) -> Result<&'a [u8], Broken>
+    ensures count { IfOk result (λ read. length read.now ≡ bytes) }
+    ensures bytes { IfOk result (λ read. ReadsPadded (R.remaining file.old) (R.remaining file.new) read.now) }
 {
-    byte as u32
-}
-
-// The word at byte `at`.
-pub fn word(s: &[u8], at: usize) -> u32
-    requires { at + 4 ≤ length s.now }
-{
-    wide(s[at]) + wide(s[at + 1]) * 256 + wide(s[at + 2]) * 65536 + wide(s[at + 3]) * 16777216
-}
-
-// Whether the file had enough to fill s, and could be read.
-pub fn filled(file: &mut impl Read, s: &mut [u8]) -> bool {
-    file.read_exact(s).is_ok()
-}
-
-// Whether s has so many bytes, and the file had enough to fill them and could be read.
-pub fn first_filled(file: &mut impl Read, s: &mut [u8], count: usize) -> bool {
-    if count > s.len() {
-        return false;
+    let count = (bytes as usize).next_multiple_of(4);
+    if count > buffer.len() {
+        return Err(Broken);
     }
-    filled(file, &mut s[0..count])
+    let padded = &mut buffer[..count];
+    file.read_exact(padded)?;
+    Ok(&padded[..bytes as usize])
 }
 
-// The bytes that so many fill in the file: whole words.
-pub fn whole_words(bytes: u32) -> usize {
-    (bytes as usize + 3) / 4 * 4
+fn read_case(file: &mut impl Read) -> Result<Case, Broken> {
+    Ok(Case {
+        entry: Entry::try_from(read_word(file)?)?,
+        base: read_word(file)?,
+        bytes: read_word(file)?,
+        event_room: read_size(file)?,
+        error_room: read_size(file)?,
+        answer: Answer {
+            refusal: read_word(file)?,
+            place: read_size(file)?,
+            events: read_size(file)?,
+            errors: read_size(file)?,
+        },
+        event_words: read_size(file)?,
+        error_words: read_size(file)?,
+    })
 }
 
-fn case_of(head: &[u8; 44]) -> Case {
-    Case {
-        entry: word(head, 0),
-        base: word(head, 4),
-        bytes: word(head, 8),
-        event_room: word(head, 12),
-        error_room: word(head, 16),
-        refusal: word(head, 20),
-        place: word(head, 24),
-        events: word(head, 28),
-        errors: word(head, 32),
-        event_words: word(head, 36),
-        error_words: word(head, 40),
-    }
-}
-
-fn read_case(file: &mut impl Read) -> Frame {
-    let mut head = [0u8; 44];
-    if !filled(file, &mut head) {
-        return Frame::Broken;
-    }
-    Frame::Case(case_of(&head))
-}
-
-fn read_end(file: &mut impl Read) -> Frame {
-    let mut count = [0u8; 8];
-    if !filled(file, &mut count) {
-        return Frame::Broken;
-    }
-    Frame::End(word(&count, 0) as u64 + word(&count, 4) as u64 * 4294967296)
-}
-
-fn read_note(file: &mut impl Read) -> Frame {
-    let mut size = [0u8; 4];
-    if !filled(file, &mut size) {
-        return Frame::Broken;
-    }
-    Frame::Note(word(&size, 0))
-}
-
-pub fn read_frame(file: &mut impl Read) -> Frame {
-    let mut sort = [0u8; 4];
-    if !filled(file, &mut sort) {
-        return Frame::Broken;
-    }
-    match word(&sort, 0) {
-        0 => read_end(file),
-        1 => read_case(file),
-        2 => read_note(file),
-        _ => Frame::Broken,
+pub fn read_frame(file: &mut impl Read) -> Result<Frame, Broken> {
+    match read_word(file)? {
+        0 => Ok(Frame::End(u64::from_le_bytes(read_array(file)?))),
+        1 => Ok(Frame::Case(read_case(file)?)),
+        2 => Ok(Frame::Note(read_word(file)?)),
+        _ => Err(Broken),
     }
 }

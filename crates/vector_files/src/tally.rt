@@ -1,105 +1,110 @@
 // What was counted so far, and the lines that say so.
-use crate::frames::{first_filled, whole_words};
-use std::io;
-use std::io::Read;
+ghost use Rattle.std.specs.Prelude.{◌≡◌, OnErr, OnOk, Some, option_map};
+ghost use Rattle.vector_files.specs.Counting.{counted};
 
-#[derive(Clone, Copy)]
-pub struct Tally {
-    // Whether a class has begun, and its lists and how many of them differ.
-    open: bool,
-    class_lists: u64,
-    class_differ: u64,
-    // All lists, and how many of them differ.
+use crate::frames::{Broken, read_bytes};
+use std::io::Read;
+use std::{fmt, io};
+
+// Why a replay stops before its end.
+#[derive(Debug, Drop)]
+pub enum Failure {
+    // The file is not as it must be.
+    Broken,
+    // What the replay prints cannot be written.
+    Output(io::Error),
+}
+
+impl From<Broken> for Failure {
+    fn from(_broken: Broken) -> Self {
+        Failure::Broken
+    }
+}
+
+impl From<io::Error> for Failure {
+    fn from(error: io::Error) -> Self {
+        Failure::Output(error)
+    }
+}
+
+// How many lists there are, and how many of them differ.
+#[derive(Clone, Copy, Default)]
+pub struct Counts {
     pub lists: u64,
     differ: u64,
 }
 
-#[derive(Clone, Copy)]
-pub enum Class {
-    New(Tally),
-    Broken,
+impl Counts {
+    // One list more, which is the same or differs. A count does not come near to where it would wrap.
+    fn with(self, same: bool) -> Self
+        ensures { result ≡ counted same self }
+    {
+        Self {
+            lists: self.lists.wrapping_add(1),
+            differ: self.differ.wrapping_add(u64::from(!same)),
+        }
+    }
 }
 
-// One more. A count does not come near to where it would wrap.
-fn more(n: u64) -> u64 {
-    n.wrapping_add(1)
+impl fmt::Display for Counts {
+    fn fmt<W: fmt::Write>(&self, f: &mut fmt::Formatter<W>) -> fmt::Result {
+        write!(f, "{} comparisons, {} differ", self.lists, self.differ)
+    }
 }
 
-fn print_counts(rt: &impl Print, lists: u64, differ: u64) -> io::Result<()> {
-    println!(rt; ": {lists} comparisons, {differ} differ")
+// All lists, and those of the class that has begun, if any.
+#[derive(Clone, Copy, Default)]
+pub struct Tally {
+    pub all: Counts,
+    class: Option<Counts>,
 }
 
 impl Tally {
-    pub fn new() -> Self {
-        Self {
-            open: false,
-            class_lists: 0,
-            class_differ: 0,
-            lists: 0,
-            differ: 0,
-        }
-    }
-
     // One list more, which is the same or differs.
-    pub fn with(self, same: bool) -> Self {
-        if same {
-            return Self {
-                open: self.open,
-                class_lists: more(self.class_lists),
-                class_differ: self.class_differ,
-                lists: more(self.lists),
-                differ: self.differ,
-            };
-        }
-        Self {
-            open: self.open,
-            class_lists: more(self.class_lists),
-            class_differ: more(self.class_differ),
-            lists: more(self.lists),
-            differ: more(self.differ),
-        }
+    pub fn count(&mut self, same: bool)
+        ensures all { self.new.all ≡ counted same self.old.all }
+        ensures class { self.new.class ≡ option_map (counted same) self.old.class }
+    {
+        self.all = self.all.with(same);
+        self.class = self.class.map(|counts| counts.with(same));
     }
 
     // The end of the class's line.
-    pub fn print_class(self, rt: &impl Print) -> io::Result<()> {
-        if self.open {
-            print_counts(rt, self.class_lists, self.class_differ)?;
+    fn print_class(&self, rt: &impl Print) -> io::Result<()> {
+        if let Some(counts) = self.class {
+            println!(rt; ": {counts}")?;
         }
         Ok(())
     }
 
-    pub fn print_all(self, rt: &impl Print) -> io::Result<()> {
-        print!(rt; "all")?;
-        print_counts(rt, self.lists, self.differ)
+    // Ends the line of the class before, if any, and begins one with the name that the file has next, of so many bytes.
+    pub fn begin_class(
+        &mut self,
+        rt: &impl Print,
+        file: &mut impl Read,
+        length: u32,
+    ) -> Result<(), Failure>
+        ensures all { self.new.all ≡ self.old.all }
+        ensures begun { OnOk result (self.new.class ≡ Some (record { lists = 0; differ = 0 })) }
+        ensures err { OnErr result (self.new ≡ self.old) }
+    {
+        self.print_class(rt)?;
+        let mut buffer = [0; 64];
+        let name = read_bytes(file, &mut buffer, length)?;
+        rt.write_all(name)?;
+        self.class = Some(Counts::default());
+        Ok(())
     }
-}
 
-// The first bytes of a name, as many as it has.
-fn print_name(rt: &impl Print, name: &[u8], length: usize) -> io::Result<()> {
-    if length <= name.len() {
-        rt.write_all(&name[0..length])?;
+    // The end: all lists came if their number is the one that stands there.
+    pub fn finish(&self, rt: &impl Print, sent: u64) -> Result<(), Failure>
+        ensures { OnOk result (self.now.all.lists ≡ sent) }
+    {
+        self.print_class(rt)?;
+        if self.all.lists != sent {
+            return Err(Failure::Broken);
+        }
+        println!(rt; "all: {}", self.all)?;
+        Ok(())
     }
-    Ok(())
-}
-
-// Ends the line of the class before, if any, and begins one with the name that the file has next.
-pub fn new_class(
-    rt: &impl Print,
-    file: &mut impl Read,
-    t: Tally,
-    length: u32,
-) -> io::Result<Class> {
-    t.print_class(rt)?;
-    let mut name = [0u8; 64];
-    if !first_filled(file, &mut name, whole_words(length)) {
-        return Ok(Class::Broken);
-    }
-    print_name(rt, &name, length as usize)?;
-    Ok(Class::New(Tally {
-        open: true,
-        class_lists: 0,
-        class_differ: 0,
-        lists: t.lists,
-        differ: t.differ,
-    }))
 }

@@ -8,71 +8,35 @@ mod replay;
 use crate::replay::replay;
 use std::fs::File;
 use std::io;
-use std::io::Read;
-use vector_files::comparing::Compared;
+use std::io::{BufReader, Read};
 use vector_files::frames::{Frame, read_frame};
-use vector_files::tally::{Class, Tally, new_class};
-
-// What is left to do after a frame.
-#[derive(Clone, Copy)]
-enum After {
-    Next(Tally),
-    End,
-}
-
-// The file is not as it must be.
-fn broken(rt: &impl Print, t: Tally) -> io::Result<After> {
-    let lists = t.lists;
-    println!(rt; "\nvectors.bin is broken after list {lists}")?;
-    Ok(After::End)
-}
-
-// The end: all lists came if their number is the one that stands there.
-fn finish(rt: &impl Print, t: Tally, sent: u64) -> io::Result<After> {
-    t.print_class(rt)?;
-    if t.lists != sent {
-        return broken(rt, t);
-    }
-    t.print_all(rt)?;
-    Ok(After::End)
-}
-
-fn turn(rt: &impl Print, file: &mut impl Read, t: Tally) -> io::Result<After> {
-    match read_frame(file) {
-        Frame::End(sent) => finish(rt, t, sent),
-        Frame::Case(c) => match replay(file, c) {
-            Compared::Same => Ok(After::Next(t.with(true))),
-            Compared::Differs => Ok(After::Next(t.with(false))),
-            Compared::Broken => broken(rt, t),
-        },
-        Frame::Note(length) => match new_class(rt, file, t, length)? {
-            Class::New(next) => Ok(After::Next(next)),
-            Class::Broken => broken(rt, t),
-        },
-        Frame::Broken => broken(rt, t),
-    }
-}
+use vector_files::tally::{Failure, Tally};
 
 // A loop that is proved has to end, and nothing says that a file does: it has at most so many frames.
 const MOST_FRAMES: u32 = 1000000;
 
-fn replay_file(rt: &impl Print, file: &mut impl Read) -> io::Result<()> {
-    let mut t = Tally::new();
-    let mut left = MOST_FRAMES;
-    while left > 0 {
-        match turn(rt, file, t)? {
-            After::Next(next) => t = next,
-            After::End => return Ok(()),
+fn replay_file(rt: &impl Print, file: &mut impl Read, tally: &mut Tally) -> Result<(), Failure> {
+    for _ in 0..MOST_FRAMES {
+        match read_frame(file)? {
+            Frame::End(sent) => return tally.finish(rt, sent),
+            Frame::Case(case) => tally.count(replay(file, case)?),
+            Frame::Note(length) => tally.begin_class(rt, file, length)?,
         }
-        left -= 1;
     }
-    broken(rt, t)?;
-    Ok(())
+    Err(Failure::Broken)
 }
 
 fn main(rt: HostRuntime) -> io::Result<()> {
-    let Ok(mut file) = File::open(&rt, "vectors.bin") else {
+    let Ok(file) = File::open(&rt, "vectors.bin") else {
         return println!(rt; "vectors.bin cannot be opened");
     };
-    replay_file(&rt, &mut file)
+    let mut file = BufReader::new(rt.alloc(), file)?;
+    let mut tally = Tally::default();
+    match replay_file(&rt, &mut file, &mut tally) {
+        Ok(()) => Ok(()),
+        Err(Failure::Broken) => {
+            println!(rt; "\nvectors.bin is broken after list {}", tally.all.lists)
+        }
+        Err(Failure::Output(error)) => Err(error),
+    }
 }

@@ -1,6 +1,5 @@
 // The yes for records that are known to pass the check and to be regular: a caller that wrote them itself has shown it, and neither is asked again.
 ghost use Rattle.std.specs.Prelude.{◌≡◌};
-ghost use Rattle.token.specs.declared.checked.Checked.{Checked};
 ghost use Rattle.token.specs.Tokens.{all_tokens};
 ghost use Rattle.token.specs.Check.{checked};
 ghost use Rattle.fitting.specs.Premises.{Regular};
@@ -13,7 +12,7 @@ use rules::options::{Mode, Options};
 
 // As `fits`, without the check and without asking whether the list is regular.
 pub fn judge(records: &[u8], base: u32, events: &mut [u32]) -> Verdict
-    requires base_value { checked records.now base ≡ Checked.Passed }
+    requires base_value { checked records.now base ≡ Ok tt }
     requires regular { Regular (all_tokens records.now base) }
     ensures { Judges records.now base events.old events.new result }
 {

@@ -10,10 +10,6 @@ pub fn put_record(records: &mut [u8], i: usize, size: usize, kind: usize)
     ensures { records.new ≡ put_at records.old i size kind }
 {
     let at = 6 * i;
-    records[at] = (size % 256) as u8;
-    records[at + 1] = (size / 256 % 256) as u8;
-    records[at + 2] = (size / 65536 % 256) as u8;
-    records[at + 3] = (size / 16777216 % 256) as u8;
-    records[at + 4] = (kind % 256) as u8;
-    records[at + 5] = (kind / 256 % 256) as u8;
+    records[at..at + 4].copy_from_slice(&size.to_le_bytes()[..4]);
+    records[at + 4..at + 6].copy_from_slice(&kind.to_le_bytes()[..2]);
 }

@@ -4,8 +4,8 @@ use Rattle.choices.specs.ModeLaws.{known_answers, unknown_answers}
 use Rattle.export_answers.specs.ExportLaws.{exports}
 use Rattle.deckmarten.proofs.deckmarten_parse_document.Goals as goal
 
-pub returns-in-Known : goal.returns-in-Known
-returns-in-Known c = exports c.args.options.mode document_entry c.args.s.now c.args.base c.args.events.now c.args.errors.now _ _ _ _ c.exported.ensures (known_answers c.args.options.mode document_entry c.args.s.now c.args.base c.args.events.now c.args.errors.now _ c.choose-choice.ensures _ _ _ _ c.in-Known.is c.parse_document.ensures)
+pub returns-in-Some : goal.returns-in-Some
+returns-in-Some c = exports c.args.options.mode document_entry c.args.s.now c.args.base c.args.events.now c.args.errors.now _ _ _ _ c.from.ensures (known_answers c.args.options.mode document_entry c.args.s.now c.args.base c.args.events.now c.args.errors.now _ c.choose.ensures _ _ _ _ c.in-Some.is c.parse_document.ensures)
 
-pub returns-in-Unknown : goal.returns-in-Unknown
-returns-in-Unknown c = exports c.args.options.mode document_entry c.args.s.now c.args.base c.args.events.now c.args.errors.now _ _ _ _ c.exported-in-Unknown.ensures (unknown_answers c.args.options.mode document_entry c.args.s.now c.args.base c.args.events.now c.args.errors.now _ c.choose-choice.ensures _ c.in-Unknown.is c.unknown_mode.ensures)
+pub returns-in-None : goal.returns-in-None
+returns-in-None c = exports c.args.options.mode document_entry c.args.s.now c.args.base c.args.events.now c.args.errors.now _ _ _ _ c.from-in-None.ensures (unknown_answers c.args.options.mode document_entry c.args.s.now c.args.base c.args.events.now c.args.errors.now _ c.choose.ensures _ c.in-None.is c.unknown_mode.ensures)

@@ -5,4 +5,4 @@ use Rattle.export_answers.specs.ExportLaws.{exports}
 use Rattle.deckmarten.proofs.deckmarten_parse_tokens_in.Goals as goal
 
 pub returns : goal.returns
-returns c = exports c.args.mode document_entry (records_of c.args.tokens.now) c.args.base c.args.events.now c.args.errors.now _ _ _ _ c.exported.ensures c.parse_tokens-r.ensures
+returns c = exports c.args.mode document_entry (records_of c.args.tokens.now) c.args.base c.args.events.now c.args.errors.now _ _ _ _ c.from.ensures c.parse_tokens.ensures

@@ -12,9 +12,6 @@ use Rattle.flat_values.specs.FlatLaws.{value_starts}
 use Rattle.flat_values.proofs.Unread.{unread}
 use Rattle.flat_values.proofs.flat_value.Goals as goal
 
-pub on_scalar-requires : goal.on_scalar-requires
-on_scalar-requires c = record { good = c.requires.1.good; starts = value_starts c.args.t.kind _ c.requires.2 c.in-Scalar.is }
-
 pub returns-in-Nothing : goal.returns-in-Nothing
 returns-in-Nothing c = goes_as (ap (λ (z : InValue). flat_value z c.args.t.kind c.args.t.start c.args.t.end (tokens_at c.args.s.now c.args.c) (done (tokens_at c.args.s.now c.args.from))) (sym c.in-Nothing.is)) (goes_by _ _ _ _ _ _ (λ base q. ((first_item _ _ _ _ _ (c.emit-n.ensures _ _))) ∙ run_done _ _ _ _ _ _) c.requires.0 (omega arith) refl)
 
@@ -23,9 +20,6 @@ returns-in-CloseCurly c = goes_as (ap (λ (z : InValue). flat_value z c.args.t.k
 
 pub returns-in-CloseSquare : goal.returns-in-CloseSquare
 returns-in-CloseSquare c = goes_as (ap (λ (z : InValue). flat_value z c.args.t.kind c.args.t.start c.args.t.end (tokens_at c.args.s.now c.args.c) (done (tokens_at c.args.s.now c.args.from))) (sym c.in-CloseSquare.is)) (goes_by _ _ _ _ _ _ (λ base q. first_items _ (without_open Bracket.Square c.args.t.start c.args.t.end) _ _ _ (c.without_open-n-in-CloseSquare.ensures _) ∙ run_done _ _ _ _ _ _) c.requires.1.good (omega (arith, c.requires.1.on)) c.requires.1.base)
-
-pub returns-in-Scalar : goal.returns-in-Scalar
-returns-in-Scalar c = goes_as (ap (λ (z : InValue). flat_value z c.args.t.kind c.args.t.start c.args.t.end (tokens_at c.args.s.now c.args.c) (done (tokens_at c.args.s.now c.args.from))) (sym c.in-Scalar.is)) (goes_past c.requires.1 c.on_scalar.ensures)
 
 pub returns-in_default : goal.returns-in_default
 returns-in_default c = goes_as (unread c.args.x _ _ _ _ _ c.in_default.in_default-own.keys5) (goes_by _ _ _ _ _ _ (λ base q. run_done _ _ _ _ _ _) c.requires.0 (omega arith) refl)

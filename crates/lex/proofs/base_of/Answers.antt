@@ -1,16 +1,28 @@
--- By the three bytes of a byte order mark.
-use mathlib.Core.Path.{refl, sym, ◌∙◌}
-use Rattle.scan.specs.TokenLaws.{mark_is}
+-- The library's word for the rule's.
+use Rattle.std.proofs.Common.{◌≡◌, refl, sym, ◌∙◌, List, [], ◌∷◌, ℕ, Bool, true, false, ap, take, length, eqb-true, eq-eqb, ne_eqb}
+use Rattle.std.specs.Prelude.{cond, ◌&&◌, eqb}
+use Rattle.std.specs.Cmp.Lexicographic.{pointwise}
+use Rattle.std.proofs.lemmas.Bool.{false≢true}
+use Rattle.places.specs.Places.{peeks, starts_with}
+use Rattle.scan.specs.Lexer.{byte_order_mark}
 use Rattle.lex.proofs.base_of.Goals as goal
 
-pub returns-then-is_at-3 : goal.returns-then-is_at-3
-returns-then-is_at-3 c = sym (mark_is c.args.text.now _ _ _ ((sym c.is_at.ensures) ∙ c.if-is_at.true) ((sym c.is_at-then-is_at.ensures) ∙ c.if-is_at-2.true) ((sym c.is_at-then-is_at-2.ensures) ∙ c.if-is_at-3.true))
+turned : (m n : ℕ) (t : Bool) → eqb m n ≡ t → eqb n m ≡ t
+turned m n true e = eq-eqb n m (sym (eqb-true m n e))
+turned m n false e = ne_eqb n m (λ q. false≢true (sym e ∙ eq-eqb m n (sym q)))
 
-pub returns-else-is_at-3 : goal.returns-else-is_at-3
-returns-else-is_at-3 c = sym (mark_is c.args.text.now _ _ _ ((sym c.is_at.ensures) ∙ c.if-is_at.true) ((sym c.is_at-then-is_at.ensures) ∙ c.if-is_at-2.true) ((sym c.is_at-then-is_at-2.ensures) ∙ c.if-is_at-3.false))
+same : (ns bs : List ℕ) → pointwise eqb ns (take (length ns) bs) ≡ starts_with ns bs
+unfolding peeks
+same [] bs = refl
+same (n ∷ ns) [] = refl
+same (n ∷ ns) (b ∷ bs) = by_test (eqb n b) refl (same ns bs)
+  where
+    by_test : (t : Bool) → eqb n b ≡ t → pointwise eqb ns (take (length ns) bs) ≡ starts_with ns bs → (t && pointwise eqb ns (take (length ns) bs)) ≡ cond (eqb b n) (starts_with ns bs) false
+    by_test true q e = rw (turned n b true q) e
+    by_test false q e = rw (turned n b false q)
 
-pub returns-else-is_at-2 : goal.returns-else-is_at-2
-returns-else-is_at-2 c = sym (mark_is c.args.text.now _ _ _ ((sym c.is_at.ensures) ∙ c.if-is_at.true) ((sym c.is_at-then-is_at.ensures) ∙ c.if-is_at-2.false) refl)
+pub returns-then-starts_with : goal.returns-then-starts_with
+returns-then-starts_with c = sym (ap (λ (t : Bool). cond t 3 0) (sym (same byte_order_mark c.args.text.now) ∙ sym c.starts_with.ensures.value ∙ c.if-starts_with.true))
 
-pub returns-else-is_at : goal.returns-else-is_at
-returns-else-is_at c = sym (mark_is c.args.text.now _ _ _ ((sym c.is_at.ensures) ∙ c.if-is_at.false) refl refl)
+pub returns-else-starts_with : goal.returns-else-starts_with
+returns-else-starts_with c = sym (ap (λ (t : Bool). cond t 3 0) (sym (same byte_order_mark c.args.text.now) ∙ sym c.starts_with.ensures.value ∙ c.if-starts_with.false))

@@ -1,6 +1,5 @@
 -- A token a turn, and Eof behind the last.
 use native.Mathlib.Omega.{arith}
-use Prim.Native.Nat.{◌-◌}
 use Rattle.text_records.specs.TextRecordLaws.{counted_begun, counted_on, counted_end}
 use Rattle.lex.proofs.count.Goals as goal
 

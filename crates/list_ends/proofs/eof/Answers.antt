@@ -1,24 +1,17 @@
 -- Content that is left is reported; an Eof, or nothing, is not.
-use mathlib.Core.Path.{refl, sym, ◌∙◌}
-use native.Mathlib.Omega.{arith}
+use Rattle.std.proofs.Common.{◌≡◌, refl, ap, ◌∙◌, arith, rules}
+use Rattle.token.specs.declared.kind.Kind.{Kind}
+use Rattle.token.specs.Tokens.{tokens_at, Took}
 use Rattle.rules.specs.Out.{done}
-use Rattle.rules.specs.Skipping.{eof}
-use Rattle.output.specs.WalkLaws.{told, told_done, by_rule, rule_end, run_done, goes_by, goes_as, goes_past}
-use Rattle.list_ends.proofs.LeftoverLaws.{eof_at, eof_rest}
-use borrow.Enum.Refused.{opened}
+use Rattle.rules.specs.Skipping.{in_line, eof, eof_step}
+use Rattle.output.specs.WalkLaws.{by_rule, rule_end, run_done, goes_by}
 use Rattle.list_ends.proofs.eof.Goals as goal
 
-pub next-step-requires : goal.next-step-requires
-next-step-requires c = c.requires
-
 pub returns-in_default : goal.returns-in_default
-returns-in_default c = goes_by _ _ _ _ _ _ (λ base q. by_rule _ _ _ _ (rule_end _ _ eof done (told_done _ _ _ c.next-step.ensures c.in_default.is) refl) ∙ run_done _ _ _ _ _ _) c.requires (omega arith) refl
+returns-in_default c = goes_by _ _ _ _ _ _ (λ base q. by_rule _ _ _ _ (rule_end _ _ eof done c.in_default.ensures refl) ∙ run_done _ _ _ _ _ _) c.requires (omega arith) refl
 
-pub content-requires : goal.content-requires
-content-requires c = (told _ _ _ _ _ c.next-step.ensures c.in-Got.is).good
-
-pub returns-in-Eof : goal.returns-in-Eof
-returns-in-Eof c = goes_by _ _ _ _ _ _ (λ base q. by_rule _ _ _ _ (eof_at _ _ _ _ (told _ _ _ _ _ c.next-step.ensures c.in-Got.is) _ _ c.in_line-x.ensures c.in-Eof.is) ∙ run_done _ _ _ _ _ _) (told _ _ _ _ _ c.next-step.ensures c.in-Got.is).good (omega (arith, (told _ _ _ _ _ c.next-step.ensures c.in-Got.is).on)) (told _ _ _ _ _ c.next-step.ensures c.in-Got.is).base
-
-pub returns-in_default-x : goal.returns-in_default-x
-returns-in_default-x c = goes_as (sym (eof_rest _ _ _ _ (told _ _ _ _ _ c.next-step.ensures c.in-Got.is) _ c.in_line-x.ensures (opened c.in_default-x.in_default-x-own.keys2))) (goes_past (told _ _ _ _ _ c.next-step.ensures c.in-Got.is) c.content.ensures)
+pub returns-then-eq : goal.returns-then-eq
+returns-then-eq c =
+    let k : Took c.args.s.now c.args.c c.in-Some.t c.in-Some.past = c.in-Some.ensures in
+    let e : c.in-Some.t.kind ≡ Kind.Eof = search rules in
+    goes_by _ _ _ _ _ _ (λ base q. by_rule _ _ _ _ (ap eof k.seen ∙ ap (λ x. eof_step (in_line x) c.in-Some.t.start c.in-Some.t.end (tokens_at c.args.s.now c.in-Some.past)) e) ∙ run_done _ _ _ _ _ _) k.good (omega (arith, k.on)) k.base

@@ -1,7 +1,5 @@
--- Each token but Eof an error event; what is left from here gives what was left from the start.
-use mathlib.Core.Path.{◌≡◌}
-use Prim.Native.Nat.{◌-◌}
-use lib.ListN.{length}
+-- What is left from here gives what was left from the start.
+use Rattle.std.proofs.Common.{◌-◌}
 use Rattle.token.specs.Records.{count}
 use Rattle.token.specs.Tokens.{tokens_at}
 use Rattle.output.specs.Pour.{bufs}
@@ -10,9 +8,7 @@ use Rattle.rules.specs.Skipping.{leftover}
 use Rattle.list_ends.proofs.errors_to_end.Given as goal
 
 abbrev pub invariant-loop-t : goal.invariant-loop-t
-invariant-loop-t l =
-    Looped l.s (leftover (tokens_at l.s l.cur)) (leftover (tokens_at l.s l.initial.cur)) (bufs l.events l.errors l.n) (bufs l.initial.events l.errors l.initial.n) l.cur l.initial.cur
-    × (length l.events ≡ length l.initial.events)
+invariant-loop-t l = Looped l.s (leftover (tokens_at l.s l.cur)) (leftover (tokens_at l.s l.initial.cur)) (bufs l.events l.errors l.n) (bufs l.initial.events l.errors l.initial.n) l.cur l.initial.cur
 
 abbrev pub decreases-loop-t : goal.decreases-loop-t
 decreases-loop-t l = count l.s - l.cur.at

@@ -1,10 +1,6 @@
 -- The lengths so far are added.
-use Prim.Native.Nat.{◌-◌, ◌≤◌}
 use Rattle.record_checks.proofs.StretchLaws.{Added}
 use Rattle.record_checks.proofs.lengths_of.Given as goal
 
 abbrev pub invariant-loop-nth : goal.invariant-loop-nth
-invariant-loop-nth l = Added l.s l.i l.nth l.lengths × (l.nth ≤ l.k)
-
-abbrev pub decreases-loop-nth : goal.decreases-loop-nth
-decreases-loop-nth l = l.k - l.nth
+invariant-loop-nth l = Added l.s l.i l.nth l.lengths

@@ -8,6 +8,3 @@ use Rattle.regular.proofs.is_regular.Given as goal
 
 abbrev pub invariant-loop-i : goal.invariant-loop-i
 invariant-loop-i l = passes_from (count l.records - l.i) l.records l.i l.behind ≡ passes_from (count l.records) l.records 0 false
-
-abbrev pub decreases-loop-i : goal.decreases-loop-i
-decreases-loop-i l = count l.records - l.i

@@ -7,10 +7,9 @@ pub loop-i-preserved : goal.loop-i-preserved
 loop-i-preserved c =
     let room : 6 * length c.args.tokens.now ≤ length c.loop-i.records = omega (arith, c.requires, c.loop-i.invariant.kept) in
     record {
-      within = omega arith;
       same = ap (λ (s : List ℕ). Copied c.args.tokens.now (c.loop-i.i + 1) s) c.put.ensures ∙ copy_step _ _ _ c.loop-i-test.true room ∙ c.loop-i.invariant.same;
       kept = c.put.auto.records ∙ c.loop-i.invariant.kept;
     }
 
 pub returns : goal.returns
-returns c = sym (copy_done _ _ _ c.loop-i.invariant.within c.loop-i-test.false) ∙ c.loop-i.invariant.same
+returns c = sym (copy_done c.args.tokens.now c.loop-i.i c.loop-i.records c.loop-i.auto.i-end c.loop-i-test.false) ∙ c.loop-i.invariant.same

@@ -4,11 +4,5 @@ use Rattle.output.specs.WalkLaws.{after_item}
 use Rattle.key_dots.specs.DotLaws.{dot_goes}
 use Rattle.table_keys.proofs.table_dot.Goals as goal
 
-pub back-back-requires : goal.back-back-requires
-back-back-requires c = record { good = c.requires.good; at_nonzero = omega (arith, c.requires.read_dot.took.on) }
-
-pub opt_dot_keys-w-requires : goal.opt_dot_keys-w-requires
-opt_dot_keys-w-requires c = c.back-back.ensures.good
-
 pub returns : goal.returns
 returns c = after_item _ _ (λ all. c.empty_key-n.ensures all _) (dot_goes c.requires.read_dot c.back-back.ensures c.opt_dot_keys-w.ensures.goes)

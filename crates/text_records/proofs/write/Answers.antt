@@ -1,6 +1,5 @@
 -- A token a turn, and Eof behind the last.
 use native.Mathlib.Omega.{arith}
-use Prim.Native.Nat.{◌-◌}
 use Rattle.text_records.specs.TextRecordLaws.{placed_begun, placed_room, placed_on, placed_end, placed_all}
 use Rattle.text_records.proofs.write.Goals as goal
 
@@ -8,7 +7,7 @@ pub loop-at-init : goal.loop-at-init
 loop-at-init c = placed_begun _ _ _ c.requires.base_in_bounds c.requires.base_in_bounds_2
 
 pub put_token-at-requires : goal.put_token-at-requires
-put_token-at-requires c = record { at_in_bounds = c.loop-at-test.true; codes_value = c.code_table-codes.ensures; out_in_bounds = placed_room c.loop-at.invariant }
+put_token-at-requires c = record { at_in_bounds = c.loop-at-test.true; out_in_bounds = placed_room c.loop-at.invariant }
 
 pub overflow_add-out : goal.overflow_add-out
 overflow_add-out c = omega (arith, placed_room c.loop-at.invariant)

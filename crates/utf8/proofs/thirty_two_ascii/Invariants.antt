@@ -1,11 +1,7 @@
 -- The count is that of the turns as long as all are ASCII.
-use Prim.Native.Nat.{◌-◌}
 use Rattle.utf8_sequences.specs.Steps.{is_ascii}
 use Rattle.places.specs.PlaceLaws.{Tallied}
 use Rattle.utf8.proofs.thirty_two_ascii.Given as goal
 
 abbrev pub invariant-loop-k : goal.invariant-loop-k
 invariant-loop-k l = Tallied is_ascii l.text l.at l.count l.k
-
-abbrev pub decreases-loop-k : goal.decreases-loop-k
-decreases-loop-k l = 32 - l.k

@@ -1,6 +1,5 @@
 -- A step a turn: how far the rest is valid leads to how far all is.
 use native.Mathlib.Omega.{arith}
-use Prim.Native.Nat.{◌-◌}
 use Rattle.utf8_sequences.specs.Utf8Laws.{valid_start, valid_on, valid_stuck, valid_out}
 use Rattle.utf8.proofs.valid_up_to.Goals as goal
 

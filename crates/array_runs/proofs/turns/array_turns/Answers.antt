@@ -5,15 +5,6 @@ use Prim.Native.Nat.{◌-◌}
 use Rattle.array_runs.proofs.RunLaws.{running_begun, running_next, ran, again_moved}
 use Rattle.array_runs.proofs.turns.array_turns.Goals as goal
 
-pub loop-cur-init : goal.loop-cur-init
-loop-cur-init c = (running_begun _ _ _ _ _ c.requires, refl, refl)
-
-pub array_turn-a-requires : goal.array_turn-a-requires
-array_turn-a-requires c = c.loop-cur.invariant.0.good
-
-pub loop-cur-smaller : goal.loop-cur-smaller
-loop-cur-smaller c = omega (arith, again_moved c.loop-cur.invariant.0 _ c.array_turn-a.ensures.0 c.in-Again.is, c.array_turn-a.ensures.0.good.low)
-
 pub loop-cur-preserved : goal.loop-cur-preserved
 loop-cur-preserved c = (running_next c.loop-cur.invariant.0 _ c.array_turn-a.ensures.0 c.in-Again.is, (c.array_turn-a.auto.events) ∙ c.loop-cur.invariant.1, (c.array_turn-a.auto.errors) ∙ c.loop-cur.invariant.2)
 

@@ -1,10 +1,7 @@
 -- Each turn sums a stretch, and so do the records that are left behind the turns; what the sum tells of the check is the law of Summed.
-use Prim.Native.Nat.{◌-◌, ◌*◌, ◌≤◌}
+use Prim.Native.Nat.{◌*◌}
 use Rattle.token.specs.CheckLaws.{Summed}
 use Rattle.checks.proofs.check.all_pass.Given as goal
 
 abbrev pub invariant-loop-turn : goal.invariant-loop-turn
-invariant-loop-turn l = Summed l.s l.initial.end 0 l.end (l.turn * 4) × (l.turn ≤ l.turns)
-
-abbrev pub decreases-loop-turn : goal.decreases-loop-turn
-decreases-loop-turn l = l.turns - l.turn
+invariant-loop-turn l = Summed l.s l.initial.end 0 l.end (l.turn * 4)

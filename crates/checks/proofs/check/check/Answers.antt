@@ -1,5 +1,5 @@
 -- Refusals 1, 2 and 5 for the base; then the records decide.
-use mathlib.Core.Path.{sym, ◌∙◌}
+use mathlib.Core.Path.{refl, sym, ◌∙◌}
 use native.Mathlib.Omega.{arith}
 use borrow.Author.Tests.{lt-ltb, le-ltb, eq-eqb, ne_eqb}
 use Prim.Native.Nat.{◌<◌}
@@ -19,11 +19,11 @@ returns-then-n-gt-MAX_RECORDS c = simp (eq-eqb _ _ c.if-s-ne0.false, lt-ltb _ _ 
 pub returns-then-from-gt-MAX_END : goal.returns-then-from-gt-MAX_END
 unfolding checked
 returns-then-from-gt-MAX_END c =
-    let h : max_end < c.args.base = omega (arith, c.if-from-gt-MAX_END.true, c.widened-from.ensures.0) in
+    let h : max_end < c.args.base = omega (arith, c.if-from-gt-MAX_END.true) in
     simp (eq-eqb _ _ c.if-s-ne0.false, le-ltb _ _ c.if-n-gt-MAX_RECORDS.false, lt-ltb _ _ h)
 
 pub returns-then-all_pass : goal.returns-then-all_pass
-returns-then-all_pass c = sym (passed_is _ (sym c.all_pass.ensures ∙ c.if-all_pass.true)) ∙ (checked_records _ _ _ c.if-s-ne0.false c.if-n-gt-MAX_RECORDS.false (omega (arith, c.if-from-gt-MAX_END.false)) c.widened-from.ensures.0)
+returns-then-all_pass c = sym (passed_is _ (sym c.all_pass.ensures ∙ c.if-all_pass.true)) ∙ (checked_records _ _ _ c.if-s-ne0.false c.if-n-gt-MAX_RECORDS.false (omega (arith, c.if-from-gt-MAX_END.false)) refl)
 
 pub returns : goal.returns
-returns c = c.first_refused.ensures ∙ (checked_records _ _ _ c.if-s-ne0.false c.if-n-gt-MAX_RECORDS.false (omega (arith, c.if-from-gt-MAX_END.false)) c.widened-from.ensures.0)
+returns c = c.first_refused.ensures ∙ (checked_records _ _ _ c.if-s-ne0.false c.if-n-gt-MAX_RECORDS.false (omega (arith, c.if-from-gt-MAX_END.false)) refl)

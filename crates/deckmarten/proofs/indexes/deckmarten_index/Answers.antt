@@ -3,4 +3,4 @@ use Rattle.export_indexes.specs.IndexExports.{exports_index}
 use Rattle.deckmarten.proofs.indexes.deckmarten_index.Goals as goal
 
 pub returns : goal.returns
-returns c = exports_index _ _ _ _ _ _ _ c.taken-a.ensures c.exported_indexed.ensures c.index-r.ensures
+returns c = exports_index _ _ _ _ _ _ _ c.from.ensures c.from-2.ensures c.index.ensures

@@ -7,4 +7,4 @@ use Rattle.quiet.specs.Runs.{QuietAnswer}
 use Rattle.deckmarten.proofs.judgements.deckmarten_is_quiet.Goals as goal
 
 pub returns : goal.returns
-returns c = subst (λ (a : Answer). (c.is_quiet.result ≡ true) ↔ QuietAnswer a c.args.events.now) c.taken-a.ensures c.is_quiet.ensures
+returns c = subst (λ (a : Answer). (c.is_quiet.result ≡ true) ↔ QuietAnswer a c.args.events.now) c.from.ensures c.is_quiet.ensures

@@ -3,4 +3,4 @@ use Rattle.export_listings.specs.MistakeExports.{exports_listing}
 use Rattle.deckmarten.proofs.listings.deckmarten_mistakes.Goals as goal
 
 pub returns : goal.returns
-returns c = exports_listing _ _ _ _ _ _ _ _ _ _ c.taken-a.ensures c.exported_listed.ensures c.mistakes-r.ensures
+returns c = exports_listing _ _ _ _ _ _ _ _ _ _ c.from.ensures c.from-2.ensures c.mistakes-r.ensures

@@ -10,10 +10,10 @@ use Rattle.output.specs.Pour.{bufs}
 use Rattle.output.specs.TurnLaws.{Turns}
 use Rattle.documents.proofs.document.document.Given as goal
 
-abbrev pub invariant-loop-settings : goal.invariant-loop-settings
-invariant-loop-settings l =
+abbrev pub invariant-loop-end : goal.invariant-loop-end
+invariant-loop-end l =
     Turns l.s (λ k. turns (document_turn l.settings.levels) k tt (tokens_at l.s l.cur)) (looping (document_turn l.settings.levels) tt (tokens_at l.s l.initial.cur)) (bufs l.events l.errors l.n) (bufs l.initial.events l.initial.errors l.initial.n) l.cur l.initial.cur
     × (length l.events ≡ length l.initial.events) × (length l.errors ≡ length l.initial.errors)
 
-abbrev pub decreases-loop-settings : goal.decreases-loop-settings
-decreases-loop-settings l = count l.s - l.cur.at
+abbrev pub decreases-loop-end : goal.decreases-loop-end
+decreases-loop-end l = count l.s - l.cur.at

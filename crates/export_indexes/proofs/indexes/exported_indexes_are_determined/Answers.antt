@@ -10,6 +10,6 @@ pub returns : goal.returns
 unfolding held from_held
 returns c =
     record {
-      indexed = λ x y p q. λ i. from_held ((subst (λ (a : Answer). IndexDetermined a c.args.events.now c.args.index.now) c.taken-a.ensures c.indexes_are_determined.ensures) (held x) (held y) p q i);
+      indexed = λ x y p q. λ i. from_held ((subst (λ (a : Answer). IndexDetermined a c.args.events.now c.args.index.now) c.from.ensures c.indexes_are_determined.ensures) (held x) (held y) p q i);
       header = λ x y p q. p ∙ sym q;
     }

@@ -8,14 +8,14 @@ use Rattle.output.specs.WalkLaws.{by_rule, rule_end, run_done, goes_by, goes_as,
 use Rattle.expression_strays.proofs.StrayLaws.{equals_missing}
 use Rattle.expression_strays.proofs.strays.no_equals.Goals as goal
 
-pub peek-seen-requires : goal.peek-seen-requires
-peek-seen-requires c = c.requires
+pub peek-requires : goal.peek-requires
+peek-requires c = c.requires
 
 pub returns-in_default : goal.returns-in_default
-returns-in_default c = goes_by _ _ _ _ _ _ (λ base q. by_rule _ _ _ _ (rule_end _ _ (no_equals c.args.message) done ((subst (Peek c.args.s.now c.args.c)) c.in_default.is c.peek-seen.ensures) refl) ∙ run_done _ _ _ _ _ _) c.requires (omega arith) refl
+returns-in_default c = goes_by _ _ _ _ _ _ (λ base q. by_rule _ _ _ _ (rule_end _ _ (no_equals c.args.message) done ((subst (Peek c.args.s.now c.args.c)) c.in_default.is c.peek.ensures) refl) ∙ run_done _ _ _ _ _ _) c.requires (omega arith) refl
 
 pub ignore_to_newline-requires : goal.ignore_to_newline-requires
 ignore_to_newline-requires c = c.requires
 
 pub returns : goal.returns
-returns c = goes_as (equals_missing _ _ _ _ c.args.message ((subst (Peek c.args.s.now c.args.c)) c.in-Token.is c.peek-seen.ensures).took) (after_item _ _ (λ all. c.report-n.ensures all _) c.ignore_to_newline.ensures)
+returns c = goes_as (equals_missing _ _ _ _ c.args.message ((subst (Peek c.args.s.now c.args.c)) c.in-Some.is c.peek.ensures).took) (after_item _ _ (λ all. c.report-n.ensures all _) c.ignore_to_newline.ensures)

@@ -1,23 +1,9 @@
--- By the room.
-use mathlib.Core.Path.{◌≡◌, ap, ◌∙◌}
-use native.Mathlib.Omega.{arith}
-use Prim.Native.Nat.{ℕ, ◌/◌}
-use lib.ListN.{length}
-use borrow.Author.Tests.{lt-ltb, le-ltb}
-use Rattle.rules.specs.Answer.{error_size}
-use Rattle.token.specs.Tokens.{all_tokens}
-use Rattle.line_numbers.specs.Numbering.{numbered_first, stored}
+-- An error a turn.
+use Rattle.line_numbers.proofs.NumberingLaws.{numbering_begun, numbering_on}
 use Rattle.line_numbers.proofs.numbering.number_errors.Goals as goal
-use Rattle.line_numbers.proofs.numbering.number_errors.Goals.{then-room-n, else-room-n}
 
-pub number_first-requires : goal.number_first-requires
-number_first-requires c = record { s_bound = c.requires.s_bound; laid = c.requires.laid; s_bound_2 = c.requires.s_bound_2; error_size_in_bounds = elim c.if-room-n.branch [ then-room-n w ↦ omega (arith, w.stored-is, w.if-room-n.true) | else-room-n w ↦ omega (arith, w.stored-is, w.if-room-n.false) ] }
+pub loop-i-init : goal.loop-i-init
+loop-i-init c = numbering_begun _ _ _ c.requires.text_ends c.requires.laid c.first_line-point.ensures c.no_comma-comma.ensures
 
-pub returns : goal.returns
-returns c =
-    let room = length c.args.errors.now / error_size in
-    let e : c.if-room-n.stored ≡ stored c.args.n room = elim c.if-room-n.branch [
-      | then-room-n w ↦ rw (lt-ltb room c.args.n w.if-room-n.true) w.stored-is
-      | else-room-n w ↦ rw (le-ltb room c.args.n w.if-room-n.false) w.stored-is
-    ] in
-    c.number_first.ensures ∙ ap (λ (k : ℕ). numbered_first c.args.mode (all_tokens c.args.s.now c.args.base) k c.args.errors.now) e
+pub loop-i-preserved : goal.loop-i-preserved
+loop-i-preserved c = numbering_on c.loop-i.invariant c.loop-i-test.true c.place_of-u.ensures

@@ -1,32 +1,15 @@
 -- The words, where there is room.
-use native.Mathlib.Omega.{arith}
-use native.Mathlib.Numerals.{towards_suc}
-use lib.ListN.{length-set}
-use borrow.Author.Tests.{lt-ltb, le-ltb}
+use Rattle.std.proofs.Common.{lt-ltb, le-ltb, ◌*◌, arith}
+use Rattle.rules.specs.Answer.{error_size}
 use Rattle.mistake_rules.specs.Sheets.{put_at}
+use Rattle.mistake_steps.proofs.PuttingLaws.{copied}
 use Rattle.mistake_steps.proofs.putting.put_mistake.Goals as goal
-
-pub bounds-mistakes-b-then-k-mistakes : goal.bounds-mistakes-b-then-k-mistakes
-bounds-mistakes-b-then-k-mistakes c = simp length-set (omega arith)
-
-pub bounds-mistakes-b-then-k-mistakes-2 : goal.bounds-mistakes-b-then-k-mistakes-2
-bounds-mistakes-b-then-k-mistakes-2 c = simp length-set (omega arith)
-
-pub bounds-mistakes-b-then-k-mistakes-3 : goal.bounds-mistakes-b-then-k-mistakes-3
-bounds-mistakes-b-then-k-mistakes-3 c = simp length-set (omega arith)
-
-pub bounds-mistakes-b-then-k-mistakes-4 : goal.bounds-mistakes-b-then-k-mistakes-4
-bounds-mistakes-b-then-k-mistakes-4 c = simp length-set (omega arith)
-
-pub bounds-mistakes-b-then-k-mistakes-5 : goal.bounds-mistakes-b-then-k-mistakes-5
-bounds-mistakes-b-then-k-mistakes-5 c = simp length-set (omega arith)
-
-pub bounds-mistakes-b-then-k-mistakes-6 : goal.bounds-mistakes-b-then-k-mistakes-6
-bounds-mistakes-b-then-k-mistakes-6 c = simp length-set (omega arith)
 
 pub returns-then-k-mistakes : goal.returns-then-k-mistakes
 unfolding put_at
-returns-then-k-mistakes c = rw (lt-ltb _ _ c.if-k-mistakes.true) (simp towards_suc)
+returns-then-k-mistakes c =
+    rw (lt-ltb _ _ c.if-k-mistakes.true)
+    (copied (c.args.k * error_size) _ c.args.words _ c.args.mistakes.now c.copy_from_slice.ensures.after c.copy_from_slice.ensures.len (omega arith))
 
 pub returns-else-k-mistakes : goal.returns-else-k-mistakes
 unfolding put_at

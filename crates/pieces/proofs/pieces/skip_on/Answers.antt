@@ -1,23 +1,61 @@
 -- On over skipped text and blanks.
-use mathlib.Core.Path.{sym, ◌∙◌}
-use Prim.Native.Nat.{◌-◌}
-use Rattle.pieces.proofs.PieceLaws.{event_held, skipping_begun, skipping_more, skipping_blank, skipped_over, skipped_end}
+use Rattle.std.proofs.Common.{sym, ◌∙◌, inl, inr, true, false, ◌/◌, length, arith}
+use Rattle.rules.specs.Answer.{event_size}
+use Rattle.pieces.specs.declared.sorts.Sort.{Sort}
+use Rattle.pieces.proofs.PieceLaws.{end_on, pieces_on, none_left, end_left}
 use Rattle.pieces.proofs.pieces.skip_on.Goals as goal
-
-pub loop-at-init : goal.loop-at-init
-loop-at-init c = skipping_begun _ _ _ _ c.requires.i_le_n
-
-pub sort_at-sort-requires : goal.sort_at-sort-requires
-sort_at-sort-requires c = event_held c.args.n c.loop-at.at c.args.events.now c.loop-at-test.true c.requires.event_size_in_bounds
-
-pub loop-at-preserved-in-Skipped : goal.loop-at-preserved-in-Skipped
-loop-at-preserved-in-Skipped c = skipping_more c.loop-at.invariant c.loop-at-test.true ((sym c.sort_at-sort.ensures ∙ c.in-Skipped.is))
+use Rattle.pieces.proofs.pieces.skip_on.Goals.{in-Skipped, in-Blank}
 
 pub loop-at-preserved : goal.loop-at-preserved
-loop-at-preserved c = skipping_blank c.loop-at.invariant c.loop-at-test.true ((sym c.sort_at-sort.ensures ∙ c.in-Blank.is))
+loop-at-preserved c =
+    let n = length c.args.events.now / event_size in
+    elim c.match-sort_at.branch [
+      | in-Skipped w ↦
+          let e = sym c.sort_at.ensures ∙ w.in-Skipped.is in
+          rw w.last-is
+          (record {
+            ends = c.loop-at.invariant.ends ∙ end_on n c.loop-at.at c.args.events.now c.loop-at-test.true Sort.Skipped e c.loop-at.last;
+            same = c.loop-at.invariant.same ∙ pieces_on n c.loop-at.at c.args.events.now c.loop-at-test.true Sort.Skipped e true;
+          })
+      | in-Blank w ↦
+          let e = sym c.sort_at.ensures ∙ w.in-Blank.is in
+          rw w.last-is
+          (record {
+            ends = c.loop-at.invariant.ends ∙ end_on n c.loop-at.at c.args.events.now c.loop-at-test.true Sort.Blank e c.loop-at.last;
+            same = c.loop-at.invariant.same ∙ pieces_on n c.loop-at.at c.args.events.now c.loop-at-test.true Sort.Blank e true;
+          })
+    ]
 
-pub returns-in_default : goal.returns-in_default
-returns-in_default c = skipped_over c.loop-at.invariant _ c.loop-at-test.true (sym c.sort_at-sort.ensures) c.in_default.in_default-own.keys3
+pub returns-in-Sound : goal.returns-in-Sound
+returns-in-Sound c =
+    let n = length c.args.events.now / event_size in
+    elim c.in-Sound.is [
+      | inl is ↦
+          let e = sym c.sort_at.ensures ∙ is in
+          record {
+            ends = sym (c.loop-at.invariant.ends ∙ end_on n c.loop-at.at c.args.events.now c.loop-at-test.true Sort.Sound e c.loop-at.last);
+            behind = c.loop-at.invariant.same ∙ pieces_on n c.loop-at.at c.args.events.now c.loop-at-test.true Sort.Sound e true
+                ∙ sym (pieces_on n c.loop-at.at c.args.events.now c.loop-at-test.true Sort.Sound e false);
+            on = c.loop-at.auto.at;
+            within = omega arith;
+          }
+      | inr (message, is) ↦
+          let e = sym c.sort_at.ensures ∙ is in
+          record {
+            ends = sym (c.loop-at.invariant.ends ∙ end_on n c.loop-at.at c.args.events.now c.loop-at-test.true (Sort.Wrong message) e c.loop-at.last);
+            behind = c.loop-at.invariant.same ∙ pieces_on n c.loop-at.at c.args.events.now c.loop-at-test.true (Sort.Wrong message) e true
+                ∙ sym (pieces_on n c.loop-at.at c.args.events.now c.loop-at-test.true (Sort.Wrong message) e false);
+            on = c.loop-at.auto.at;
+            within = omega arith;
+          }
+    ]
 
 pub returns : goal.returns
-returns c = skipped_end c.loop-at.invariant c.loop-at-test.false
+returns c =
+    let n = length c.args.events.now / event_size in
+    record {
+      ends = sym (c.loop-at.invariant.ends ∙ end_left n c.loop-at.at c.args.events.now c.loop-at.last c.loop-at-test.false);
+      behind = c.loop-at.invariant.same ∙ none_left n c.loop-at.at c.args.events.now true c.loop-at-test.false ∙ sym (none_left n n c.args.events.now false (omega arith));
+      on = c.requires;
+      within = omega arith;
+    }

@@ -1,6 +1,5 @@
 -- The least place so far: the bytes before it are none of the three.
 use native.Mathlib.Omega.{arith}
-use Prim.Native.Nat.{◌-◌}
 use Rattle.places.specs.PlaceLaws.{led_begun, led_on, led_end}
 use Rattle.places.proofs.plain.first_of.Goals as goal
 
@@ -17,7 +16,7 @@ pub overflow_cast-k : goal.overflow_cast-k
 overflow_cast-k c = omega (arith, c.loop-k-test.true)
 
 pub loop-k-preserved : goal.loop-k-preserved
-loop-k-preserved c = led_on c.loop-k.invariant c.loop-k-test.true (omega (arith, c.requires, c.loop-k-test.true)) _ _ c.place_of-place.ensures c.least-first.ensures
+loop-k-preserved c = led_on c.loop-k.invariant c.loop-k-test.true (omega (arith, c.requires, c.loop-k-test.true)) _ _ c.place_of.ensures c.min-first.ensures
 
 pub returns : goal.returns
 returns c = led_end c.loop-k.invariant c.loop-k-test.false c.requires

@@ -1,12 +1,8 @@
 -- The least place so far: the bytes before it are none of the three.
 use mathlib.Core.List.{[], ◌∷◌}
-use Prim.Native.Nat.{◌-◌}
 use Rattle.places.specs.Places.{none_of}
 use Rattle.places.specs.PlaceLaws.{Led}
 use Rattle.places.proofs.plain.first_of.Given as goal
 
 abbrev pub invariant-loop-k : goal.invariant-loop-k
 invariant-loop-k l = Led (none_of (l.x ∷ l.y ∷ l.z ∷ [])) l.text l.at l.first l.k
-
-abbrev pub decreases-loop-k : goal.decreases-loop-k
-decreases-loop-k l = 32 - l.k

@@ -1,6 +1,5 @@
 -- Thirty-two bytes a turn, or up to the first that is one of the three.
 use native.Mathlib.Omega.{arith}
-use Prim.Native.Nat.{◌-◌}
 use Rattle.places.specs.PlaceLaws.{passed_none, passed_to}
 use Rattle.places.proofs.plain.past_plain.Goals as goal
 

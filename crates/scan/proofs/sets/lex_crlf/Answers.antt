@@ -11,5 +11,5 @@ overflow_add-result c = omega (arith, peeks_within (is_byte 10) c.args.text.now 
 pub returns-then-is_at : goal.returns-then-is_at
 returns-then-is_at c = record { is = rw ((sym c.is_at.ensures) ∙ c.if-is_at.true); within = omega (arith, peeks_within (is_byte 10) c.args.text.now c.args.at ((sym c.is_at.ensures) ∙ c.if-is_at.true)) }
 
-pub returns : goal.returns
-returns c = record { is = rw ((sym c.is_at.ensures) ∙ c.if-is_at.false) (omega arith); within = c.requires }
+pub returns-else-is_at : goal.returns-else-is_at
+returns-else-is_at c = record { is = rw ((sym c.is_at.ensures) ∙ c.if-is_at.false) (omega arith); within = c.requires }

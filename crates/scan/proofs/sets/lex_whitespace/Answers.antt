@@ -1,21 +1,9 @@
--- A byte a turn, until one is of the set.
-use mathlib.Core.Path.{refl, sym, ◌∙◌}
-use native.Mathlib.Omega.{arith}
-use Prim.Native.Nat.{◌-◌}
-use Rattle.scan.specs.Lexer.{until, ends_whitespace}
-use Rattle.places.specs.PlaceLaws.{begun, next, over, out}
-use Rattle.scan.specs.ScanLaws.{until_hit, until_on}
+-- The first byte of the set.
+use Rattle.std.proofs.Common.{rules}
+use Rattle.places.specs.PlaceLaws.{begun}
+use Rattle.scan.specs.Lexer.{ends_whitespace}
+use Rattle.scan.specs.ScanLaws.{until_found}
 use Rattle.scan.proofs.sets.lex_whitespace.Goals as goal
 
-pub loop-i-init : goal.loop-i-init
-loop-i-init c = begun c.requires
-
-pub returns-then-over : goal.returns-then-over
-returns-then-over c = over c.loop-i.invariant 0 _ (omega arith) c.loop-i.invariant.low (until_hit ends_whitespace c.args.text.now c.loop-i.i c.loop-i-test.true (sym c.ends_whitespace-over.ensures ∙ c.if-over.true))
-
-pub loop-i-preserved : goal.loop-i-preserved
-loop-i-preserved c = next c.loop-i.invariant c.loop-i-test.true (until_on ends_whitespace c.args.text.now c.loop-i.i c.loop-i-test.true (sym c.ends_whitespace-over.ensures ∙ c.if-over.false))
-
 pub returns : goal.returns
-unfolding until
-returns c = out c.loop-i.invariant refl c.loop-i-test.false
+returns c = until_found ends_whitespace (begun c.requires) (c.until.ensures ends_whitespace (λ b r h k. search rules))

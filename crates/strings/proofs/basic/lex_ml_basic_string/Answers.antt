@@ -1,8 +1,6 @@
 -- Past plain bytes, then a byte a turn, or two at an escape.
 use mathlib.Core.Path.{refl, sym, ◌∙◌}
-use mathlib.Core.Bool.{false}
 use native.Mathlib.Omega.{arith}
-use Prim.Native.Nat.{◌-◌}
 use Rattle.scan.specs.Lexer.{lex_ml_basic_string}
 use Rattle.places.specs.PlaceLaws.{passed_still, over, out}
 use Rattle.scan.specs.ScanLaws.{ml_basic_passes, three_within, ml_basic_close, ml_basic_on}

@@ -1,7 +1,8 @@
 -- Past plain bytes, then a byte a turn.
 use mathlib.Core.Path.{refl, sym, ◌∙◌}
+use Rattle.std.proofs.Common.{◌≡◌, ℕ, length, subst}
+use Rattle.places.specs.Places.{Scanned}
 use native.Mathlib.Omega.{arith}
-use Prim.Native.Nat.{◌-◌}
 use Rattle.scan.specs.Lexer.{lex_ml_literal_string}
 use Rattle.places.specs.PlaceLaws.{passed_still, next, over, out}
 use Rattle.scan.specs.ScanLaws.{ml_literal_passes, three_within, ml_literal_close, ml_literal_on}
@@ -31,4 +32,4 @@ loop-i-preserved c = next c.loop-i.invariant c.loop-i-test.true (ml_literal_on c
 
 pub returns : goal.returns
 unfolding lex_ml_literal_string
-returns c = out c.loop-i.invariant refl c.loop-i-test.false
+returns c = let e : c.loop-i.i ≡ length c.args.text.now = (let l = c.loop-i.invariant.low in omega arith) in subst (λ (n : ℕ). Scanned lex_ml_literal_string c.args.text.now c.args.at n) e (out c.loop-i.invariant refl c.loop-i-test.false)

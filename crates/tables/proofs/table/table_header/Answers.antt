@@ -20,8 +20,8 @@ key-k-requires c = c.opt_whitespace-v.ensures.good
 pub opt_whitespace-w-requires : goal.opt_whitespace-w-requires
 opt_whitespace-w-requires c = c.key-k.ensures.goes.good
 
-pub next_token_if-step-requires : goal.next_token_if-step-requires
-next_token_if-step-requires c = c.opt_whitespace-w.ensures.good
+pub next_token_if-requires : goal.next_token_if-requires
+next_token_if-requires c = c.opt_whitespace-w.ensures.good
 
 pub unclosed_table-requires : goal.unclosed_table-requires
 unclosed_table-requires c = c.opt_whitespace-w.ensures.good
@@ -30,13 +30,13 @@ pub returns-in_default : goal.returns-in_default
 returns-in_default c =
     goes_on_lem (λ us. key message.invalid_table us then opt_whitespace then next_token_if Kind.RightSquareBracket (closed c.args.array c.args.head.start) (unclosed c.args.array (key_valid us) c.args.head.start c.args.head.end)) c.opt_whitespace-v.ensures
     (goes_on_lem (next_token_if Kind.RightSquareBracket (closed c.args.array c.args.head.start) (unclosed c.args.array (key_valid (tokens_at c.args.s.now c.opt_whitespace-v.result.cur)) c.args.head.start c.args.head.end)) (goes_on_lem opt_whitespace c.key-k.ensures.goes c.opt_whitespace-w.ensures)
-    (goes_as (unclosed_by _ _ _ _ _ _ _ refl c.key-k.ensures.valid ∙ sym (next_none _ _ Kind.RightSquareBracket (closed c.args.array c.args.head.start) (unclosed c.args.array (key_valid (tokens_at c.args.s.now c.opt_whitespace-v.result.cur)) c.args.head.start c.args.head.end) (told_none _ _ _ _ c.next_token_if-step.ensures c.in_default.is))) c.unclosed_table.ensures))
+    (goes_as (unclosed_by _ _ _ _ _ _ _ refl c.key-k.ensures.valid ∙ sym (next_none _ _ Kind.RightSquareBracket (closed c.args.array c.args.head.start) (unclosed c.args.array (key_valid (tokens_at c.args.s.now c.opt_whitespace-v.result.cur)) c.args.head.start c.args.head.end) c.in_default.ensures)) c.unclosed_table.ensures))
 
 pub close_table-requires : goal.close_table-requires
-close_table-requires c = (told_if _ _ _ _ _ _ c.next_token_if-step.ensures c.in-Got.is).1.good
+close_table-requires c = c.in-Some.ensures.1.good
 
 pub returns : goal.returns
 returns c =
     goes_on_lem (λ us. key message.invalid_table us then opt_whitespace then next_token_if Kind.RightSquareBracket (closed c.args.array c.args.head.start) (unclosed c.args.array (key_valid us) c.args.head.start c.args.head.end)) c.opt_whitespace-v.ensures
     (goes_on_lem (next_token_if Kind.RightSquareBracket (closed c.args.array c.args.head.start) (unclosed c.args.array (key_valid (tokens_at c.args.s.now c.opt_whitespace-v.result.cur)) c.args.head.start c.args.head.end)) (goes_on_lem opt_whitespace c.key-k.ensures.goes c.opt_whitespace-w.ensures)
-    (goes_as (sym (next_got _ _ _ _ Kind.RightSquareBracket (closed c.args.array c.args.head.start) (unclosed c.args.array (key_valid (tokens_at c.args.s.now c.opt_whitespace-v.result.cur)) c.args.head.start c.args.head.end) (told_if _ _ _ _ _ _ c.next_token_if-step.ensures c.in-Got.is))) (goes_past (told_if _ _ _ _ _ _ c.next_token_if-step.ensures c.in-Got.is).1 c.close_table.ensures)))
+    (goes_as (sym (next_got _ _ _ _ Kind.RightSquareBracket (closed c.args.array c.args.head.start) (unclosed c.args.array (key_valid (tokens_at c.args.s.now c.opt_whitespace-v.result.cur)) c.args.head.start c.args.head.end) c.in-Some.ensures)) (goes_past c.in-Some.ensures.1 c.close_table.ensures)))

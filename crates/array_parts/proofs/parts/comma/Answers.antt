@@ -1,8 +1,0 @@
--- By the state.
-use Rattle.array_parts.proofs.parts.comma.Goals as goal
-
-pub returns-in-NeedsValue : goal.returns-in-NeedsValue
-returns-in-NeedsValue c = λ all. rw (c.in-NeedsValue.is, c.emit.ensures all _, c.report_at-i.ensures all _)
-
-pub returns-in-NeedsComma : goal.returns-in-NeedsComma
-returns-in-NeedsComma c = λ all. rw (c.in-NeedsComma.is, c.emit-in-NeedsComma.ensures all _)
