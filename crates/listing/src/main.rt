@@ -32,15 +32,41 @@ fn list(rt: &impl Print, s: &[u8]) -> io::Result<()>
     print_outcome(rt, answer, &events, &errors)
 }
 
-// One byte more than the most is asked for, so that longer input shows.
-fn main(rt: HostRuntime) -> io::Result<()> {
-    let mut input = Vec::new(rt.alloc());
-    let read = rt.stdin().take(MOST as u64 + 1).read_to_end(&mut input);
-    if read.is_err() {
-        return eprintln!(rt; "listing: standard input cannot be read");
+// Reads until `buffer` is full, the input ends or a read fails, and answers how many bytes came.
+fn read_full(input: &mut impl Read, buffer: &mut [u8]) -> usize
+    ensures { result ≤ length buffer.new }
+{
+    let mut done = 0;
+    while done < buffer.len() {
+        match input.read(&mut buffer[done..]) {
+            Ok(0) | Err(_) => return done,
+            Ok(n) => done += n,
+        }
     }
-    if input.len() > MOST {
+    done
+}
+
+// Whether the input has come to its end. `read_full` stops there, and where a read fails: only one more read, which gives nothing and does not
+// fail, tells that all of the input was read.
+fn at_end(input: &mut impl Read) -> bool {
+    let mut beyond = [0u8; 1];
+    match input.read(&mut beyond) {
+        Ok(n) => n == 0,
+        Err(_) => false,
+    }
+}
+
+// The input is an array and no Vec, so that no input is refused for want of memory. One byte more than the most is asked for, so that longer input
+// shows.
+fn main(rt: HostRuntime) -> io::Result<()> {
+    let mut stdin = rt.stdin();
+    let mut input = [0u8; 3073];
+    let n = read_full(&mut stdin, &mut input);
+    if n > MOST {
         return println!(rt; "input too long");
     }
-    list(&rt, &input)
+    if at_end(&mut stdin) {
+        return list(&rt, &input[..n]);
+    }
+    eprintln!(rt; "listing: standard input cannot be read")
 }

@@ -1,7 +1,7 @@
 // What an entry gives, held to what the file says.
-ghost use Rattle.std.specs.Prelude.{◌≡◌, ◌↔◌, IsTrue};
+ghost use Rattle.std.specs.Prelude.{◌≡◌, ◌↔◌, ◌*◌, ◌≤◌, IsTrue, length};
 
-use crate::frames::{Broken, read_word};
+use crate::frames::{Broken, word};
 use rules::answer::Answer;
 use std::io::Read;
 
@@ -17,15 +17,32 @@ pub fn same_answer(a: Answer, wanted: Answer) -> bool
         && a.errors == wanted.errors
 }
 
-// Whether the buffer begins with so many words that come next in the file, and is untouched after them. All the words are read, also
-// behind one that differs, since the file goes on after them.
+// The bytes of the longest buffer that is compared.
+const MOST_BYTES: usize = 16384;
+
+// Whether these are the words that come first in the bytes.
+fn begin_with(bytes: &[u8], words: &[u32]) -> bool
+    requires { 4 * length words.now ≤ length bytes.now }
+{
+    for i in 0..words.len() {
+        if words[i] != word(bytes, 4 * i) {
+            return false;
+        }
+    }
+    true
+}
+
+// Whether the buffer begins with so many words that come next in the file, and is untouched after them. All the words are read at once,
+// since the file goes on after them.
 pub fn next_words_are(file: &mut impl Read, buffer: &[u32], words: usize) -> Result<bool, Broken> {
+    let mut bytes = [0; MOST_BYTES];
     let Some((written, beyond)) = buffer.split_at_checked(words) else {
         return Err(Broken);
     };
-    let mut same = beyond.iter().all(|word| *word == UNTOUCHED);
-    for word in written {
-        same &= *word == read_word(file)?;
+    if words > MOST_BYTES / 4 {
+        return Err(Broken);
     }
-    Ok(same)
+    let wanted = &mut bytes[..4 * words];
+    file.read_exact(wanted)?;
+    Ok(begin_with(wanted, written) && beyond.iter().all(|word| *word == UNTOUCHED))
 }

@@ -1,5 +1,5 @@
 // Frames of vectors.bin, read in turn. Words have four bytes, the lowest first.
-ghost use Rattle.std.specs.Prelude.{◌≡◌, IfOk, length};
+ghost use Rattle.std.specs.Prelude.{◌≡◌, ◌+◌, ◌≤◌, IfOk, length};
 ghost use Rattle.vector_files.specs.Padded.{ReadsPadded};
 
 use rules::answer::Answer;
@@ -62,18 +62,17 @@ pub enum Frame {
     Note(u32),
 }
 
+// The bytes of a case before its list: eleven words.
+const HEAD_BYTES: usize = 44;
+
 fn read_array<const N: usize>(file: &mut impl Read) -> Result<[u8; N], Broken> {
     let mut bytes = [0; N];
     file.read_exact(&mut bytes)?;
     Ok(bytes)
 }
 
-pub(crate) fn read_word(file: &mut impl Read) -> Result<u32, Broken> {
+fn read_word(file: &mut impl Read) -> Result<u32, Broken> {
     Ok(u32::from_le_bytes(read_array(file)?))
-}
-
-fn read_size(file: &mut impl Read) -> Result<usize, Broken> {
-    Ok(read_word(file)? as usize)
 }
 
 // Reads so many bytes, which fill whole words in the file, into the buffer, and answers with them.
@@ -94,21 +93,36 @@ pub fn read_bytes<'a, R: Read>(
     Ok(&padded[..bytes as usize])
 }
 
+// The word at byte `at`.
+pub fn word(bytes: &[u8], at: usize) -> u32
+    requires { at + 4 ≤ length bytes.now }
+{
+    u32::from_le_bytes([bytes[at], bytes[at + 1], bytes[at + 2], bytes[at + 3]])
+}
+
+fn size(bytes: &[u8], at: usize) -> usize
+    requires { at + 4 ≤ length bytes.now }
+{
+    word(bytes, at) as usize
+}
+
+// The head is read at once: a read of each word by itself asks the system eleven times.
 fn read_case(file: &mut impl Read) -> Result<Case, Broken> {
+    let head: [u8; HEAD_BYTES] = read_array(file)?;
     Ok(Case {
-        entry: Entry::try_from(read_word(file)?)?,
-        base: read_word(file)?,
-        bytes: read_word(file)?,
-        event_room: read_size(file)?,
-        error_room: read_size(file)?,
+        entry: Entry::try_from(word(&head, 0))?,
+        base: word(&head, 4),
+        bytes: word(&head, 8),
+        event_room: size(&head, 12),
+        error_room: size(&head, 16),
         answer: Answer {
-            refusal: read_word(file)?,
-            place: read_size(file)?,
-            events: read_size(file)?,
-            errors: read_size(file)?,
+            refusal: word(&head, 20),
+            place: size(&head, 24),
+            events: size(&head, 28),
+            errors: size(&head, 32),
         },
-        event_words: read_size(file)?,
-        error_words: read_size(file)?,
+        event_words: size(&head, 36),
+        error_words: size(&head, 40),
     })
 }
 

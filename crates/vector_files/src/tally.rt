@@ -70,7 +70,7 @@ impl Tally {
     }
 
     // The end of the class's line.
-    fn print_class(&self, rt: &impl Print) -> io::Result<()> {
+    pub fn print_class(&self, rt: &impl Print) -> io::Result<()> {
         if let Some(counts) = self.class {
             println!(rt; ": {counts}")?;
         }

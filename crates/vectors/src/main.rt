@@ -8,7 +8,7 @@ mod replay;
 use crate::replay::replay;
 use std::fs::File;
 use std::io;
-use std::io::{BufReader, Read};
+use std::io::Read;
 use vector_files::frames::{Frame, read_frame};
 use vector_files::tally::{Failure, Tally};
 
@@ -27,10 +27,9 @@ fn replay_file(rt: &impl Print, file: &mut impl Read, tally: &mut Tally) -> Resu
 }
 
 fn main(rt: HostRuntime) -> io::Result<()> {
-    let Ok(file) = File::open(&rt, "vectors.bin") else {
+    let Ok(mut file) = File::open(&rt, "vectors.bin") else {
         return println!(rt; "vectors.bin cannot be opened");
     };
-    let mut file = BufReader::new(rt.alloc(), file)?;
     let mut tally = Tally::default();
     match replay_file(&rt, &mut file, &mut tally) {
         Ok(()) => Ok(()),
