@@ -17,8 +17,8 @@ pub fn same_answer(a: Answer, wanted: Answer) -> bool
         && a.errors == wanted.errors
 }
 
-// The bytes of the longest buffer that is compared.
-const MOST_BYTES: usize = 16384;
+// Words are read so many at a time, at most.
+const PART_WORDS: usize = 1024;
 
 // Whether these are the words that come first in the bytes.
 fn begin_with(bytes: &[u8], words: &[u32]) -> bool
@@ -32,17 +32,18 @@ fn begin_with(bytes: &[u8], words: &[u32]) -> bool
     true
 }
 
-// Whether the buffer begins with so many words that come next in the file, and is untouched after them. All the words are read at once,
-// since the file goes on after them.
+// Whether the buffer begins with so many words that come next in the file, and is untouched after them. All the words are read, also
+// behind one that differs, since the file goes on after them.
 pub fn next_words_are(file: &mut impl Read, buffer: &[u32], words: usize) -> Result<bool, Broken> {
-    let mut bytes = [0; MOST_BYTES];
+    let mut bytes = [0; 4 * PART_WORDS];
     let Some((written, beyond)) = buffer.split_at_checked(words) else {
         return Err(Broken);
     };
-    if words > MOST_BYTES / 4 {
-        return Err(Broken);
+    let mut same = beyond.iter().all(|word| *word == UNTOUCHED);
+    for part in written.chunks(PART_WORDS) {
+        let wanted = &mut bytes[..4 * part.len()];
+        file.read_exact(wanted)?;
+        same = same && begin_with(wanted, part);
     }
-    let wanted = &mut bytes[..4 * words];
-    file.read_exact(wanted)?;
-    Ok(begin_with(wanted, written) && beyond.iter().all(|word| *word == UNTOUCHED))
+    Ok(same)
 }
