@@ -213,7 +213,7 @@ module _ (k : ℕ) (state : IndexState) (out : List ℕ) where
         bytes = p ∙ ap (λ (hs : List Header). placed (entry_size * k) (index_bytes hs) out) (sym (one_ends header e));
       }
 
-  writes_none : (ends : Bool) → ended ends state ≡ [] → Finished ends state k out out k
+  pub writes_none : (ends : Bool) → ended ends state ≡ [] → Finished ends state k out out k
   unfolding index_bytes
   writes_none ends e =
       record {

@@ -17,8 +17,8 @@ pub fn same_answer(a: Answer, wanted: Answer) -> bool
         && a.errors == wanted.errors
 }
 
-// Words are read so many at a time, at most.
-const PART_WORDS: usize = 1024;
+// Words are read so many at a time: all that a case may have in a buffer, since each read asks the system.
+const PART_WORDS: usize = 4096;
 
 // Whether these are the words that come first in the bytes.
 fn begin_with(bytes: &[u8], words: &[u32]) -> bool
@@ -39,11 +39,11 @@ pub fn next_words_are(file: &mut impl Read, buffer: &[u32], words: usize) -> Res
     let Some((written, beyond)) = buffer.split_at_checked(words) else {
         return Err(Broken);
     };
-    let mut same = beyond.iter().all(|word| *word == UNTOUCHED);
+    let mut same = true;
     for part in written.chunks(PART_WORDS) {
         let wanted = &mut bytes[..4 * part.len()];
         file.read_exact(wanted)?;
         same = same && begin_with(wanted, part);
     }
-    Ok(same)
+    Ok(same && beyond.iter().all(|word| *word == UNTOUCHED))
 }

@@ -6,4 +6,4 @@ abbrev pub invariant-loop-part : goal.invariant-loop-part
 invariant-loop-part g l =
     (goal.iterator-loop-part g).can_next l.part-iterator ×
     (goal.iterator-loop-part g).is_finite l.part-iterator ×
-    (l.part-iterator.size ≡ 1024)
+    (l.part-iterator.size ≡ 4096)
